@@ -1,6 +1,6 @@
 -- Graphs as edge lists, and the arcs that walks follow.
 -- Source: Cormen, Leiserson, Rivest and Stein, Introduction to Algorithms, appendix B.4.
-use Rattle.std.specs.Prelude.{◌≡◌, ℕ, ◌<◌, ◌≤◌, List, [], ◌∷◌, length, All, AllPairs}
+use Rattle.std.specs.Prelude.{filter, ◌==◌, ◌≡◌, ℕ, ◌<◌, ◌≤◌, List, [], ◌∷◌, length, All, AllPairs}
 use Rattle.pg_base.specs.declared.TheConstants.{MAX_EDGES, MAX_VERTICES}
 use Rattle.pg_base.specs.declared.edges.Edge.{Edge}
 
@@ -44,3 +44,7 @@ backward e = record { from = e.v; to = e.u; weight = e.w }
 abbrev pub arcs_of : List Edge → List Arc
 arcs_of [] = []
 arcs_of (e ∷ edges) = forward e ∷ backward e ∷ arcs_of edges
+
+-- The arcs that leave v, in the list's order.
+abbrev pub arcs_from : List Arc → ℕ → List Arc
+arcs_from arcs v = filter (λ a. a.from == v) arcs

@@ -1,5 +1,5 @@
 -- The exit status that each outcome of a run ends with.
-use Rattle.std.specs.Prelude.{ℕ}
+use Rattle.std.specs.Prelude.{◌≡◌, ℕ}
 use Rattle.pg_base.specs.declared.outcomes.Status.{Status}
 use Rattle.pg_base.specs.declared.outcomes.Status.TheVariants.{Ok, BadWords, BadGraph, BadParts, ReadFault, WriteFault, NoMemory, BadSource}
 
@@ -12,3 +12,7 @@ status_number ReadFault = 5
 status_number WriteFault = 6
 status_number NoMemory = 7
 status_number BadSource = 8
+
+-- An exit status tells the outcome.
+abbrev pub StatusesDiffer : Type 0
+StatusesDiffer = (s t : Status) → status_number s ≡ status_number t → s ≡ t

@@ -5,6 +5,7 @@
 
 mod edges;
 mod gates;
+pub mod laws;
 mod numbers;
 mod outcomes;
 
@@ -21,3 +22,6 @@ pub const MAX_EDGES: u32 = 8_388_608;
 
 /// The greatest number of ranks of a group.
 pub const MAX_RANKS: u32 = 32;
+
+#[cfg(test)]
+mod tests;

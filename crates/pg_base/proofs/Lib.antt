@@ -1,0 +1,5 @@
+pub mod Members
+pub mod WalkLemmas
+pub mod ArcLemmas
+pub mod KeyLemmas
+mod ExampleWalks
