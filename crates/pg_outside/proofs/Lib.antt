@@ -1,0 +1,3 @@
+pub mod FilesByPlace
+pub mod Pieces
+pub mod Writes

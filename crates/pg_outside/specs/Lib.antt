@@ -1,0 +1,9 @@
+pub mod Counts
+pub mod Faults
+pub mod Files
+pub mod Fronts
+pub mod MemoryInputs
+pub mod MemorySink
+pub mod NamedFiles
+pub mod OpenFile
+pub mod Written

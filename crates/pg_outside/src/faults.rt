@@ -1,0 +1,15 @@
+ghost use Rattle.std.specs.Prelude.{◌≡◌, ◌≤◌};
+ghost use Rattle.pg_outside.specs.Counts.{counted};
+ghost use Rattle.pg_outside.specs.Faults.{Rose};
+
+use crate::Failed;
+
+/// Counts one fault.
+pub(crate) fn fault(faults: &mut u64) -> Failed
+    ensures count { faults.new ≡ counted faults.old }
+    ensures later { faults.old ≤ faults.new }
+    ensures rose { Rose faults.old faults.new }
+{
+    *faults = faults.saturating_add(1);
+    Failed
+}

@@ -1,0 +1,83 @@
+ghost use Rattle.std.specs.Prelude.{◌≡◌, ◌≤◌, length, false, None, is_ok, is_some, not, OnOk, OnErr, IfOk, IsErr, IsTrue, ◌⊎◌};
+ghost use Rattle.std.specs.Io.KnownBytes.{ReadConsumes};
+ghost use Rattle.pg_outside.specs.Counts.{counted_if};
+ghost use Rattle.pg_outside.specs.Faults.{Rose};
+ghost use Rattle.pg_outside.specs.OpenFile.{left_of};
+
+use crate::faults::fault;
+use crate::{Failed, Inputs};
+use std::fs;
+use std::io::Read;
+use std::rt::Files;
+
+/// The files of the system, whose contents are not told. The bytes left of the file that was begun last are
+/// told only where the runtime's files tell them: those of the system tell none.
+#[derive(Drop)]
+pub struct FileInputs<R: Files> {
+    rt: R,
+    file: Option<R::File>,
+    faults: u64,
+}
+
+impl<R: Files> FileInputs<R> {
+    /// The files that this runtime reaches.
+    pub fn new(rt: R) -> FileInputs<R>
+        ensures faults { result.faults ≡ 0 }
+        ensures begun { is_some result.file ≡ false }
+    {
+        FileInputs {
+            rt,
+            file: None,
+            faults: 0,
+        }
+    }
+}
+
+impl<R: Files> Inputs for FileInputs<R> {
+    ghost faults = { λ inputs. inputs.faults };
+
+    ghost files = { λ _. None };
+
+    ghost begun = { λ inputs. is_some inputs.file };
+
+    ghost left = { λ inputs. left_of R.File.remaining inputs.file };
+
+    /// Opens the file of this name. An error of the system counts one fault, and no name is begun after it.
+    fn begin(&mut self, name: &str) -> Result<(), Failed>
+        ensures later { self.old.faults ≤ self.new.faults }
+        ensures cause { OnErr result (Rose self.old.faults self.new.faults) }
+        ensures begun { is_some self.new.file ≡ is_ok result }
+        ensures count { self.new.faults ≡ counted_if (not (is_ok result)) self.old.faults }
+    {
+        match fs::open(&self.rt, name) {
+            Ok(file) => {
+                self.file = Some(file);
+                Ok(())
+            }
+            Err(_) => {
+                self.file = None;
+                Err(fault(&mut self.faults))
+            }
+        }
+    }
+
+    /// One read of the file into the whole of `buf`. An error of the system counts one fault.
+    fn read(&mut self, buf: &mut [u8]) -> Result<usize, Failed>
+        requires { IsTrue (is_some self.old.file) }
+        ensures later { self.old.faults ≤ self.new.faults }
+        ensures cause { OnErr result (Rose self.old.faults self.new.faults) }
+        ensures within { IfOk result (λ n. n ≤ length buf.old) }
+        ensures bytes { ReadConsumes (left_of R.File.remaining self.old.file)
+            (left_of R.File.remaining self.new.file) result buf.new }
+        ensures begun { is_some self.new.file ≡ is_some self.old.file }
+        ensures count { self.new.faults ≡ counted_if (not (is_ok result)) self.old.faults }
+    {
+        let Some(file) = &mut self.file else {
+            unreachable!()
+        };
+        match file.read(buf) {
+            Ok(count) => Ok(count),
+            Err(_) => Err(fault(&mut self.faults)),
+        }
+    }
+}
