@@ -1,0 +1,15 @@
+pub mod Ascending
+pub mod ExampleTexts
+pub mod Graphs
+pub mod LineLemmas
+pub mod Neighbours
+pub mod NoFiles
+pub mod OneGraph
+pub mod Pairing
+pub mod Places
+pub mod PlainTexts
+pub mod Refusals
+pub mod RowLemmas
+pub mod Settling
+pub mod StepLemmas
+pub mod WordLemmas

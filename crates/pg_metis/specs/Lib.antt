@@ -1,0 +1,10 @@
+pub mod Answers
+pub mod Examples
+pub mod File
+pub mod FileLaws
+pub mod Mirror
+pub mod Reading
+pub mod Rows
+pub mod Steps
+pub mod Taking
+pub mod Text
