@@ -1,0 +1,18 @@
+//! The program as one call: words in, a graph read, its answer written, and a status.
+#![tactic(auto)]
+
+mod adjacency;
+mod commands;
+mod faults;
+pub mod laws;
+mod planning;
+mod plans;
+mod printing;
+mod search;
+#[cfg(test)]
+mod tests;
+
+pub use commands::{Answer, Work, command};
+pub use faults::Fault;
+pub use planning::plan;
+pub use plans::{Algorithm, Plan, PlanFault};
