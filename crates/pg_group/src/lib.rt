@@ -1,0 +1,19 @@
+//! Groups of ranks: each rank has a port, with one lane to and one lane from each other rank. Messages go
+//! down a lane in rounds, and a mark with the sender's vote ends a round on its lane.
+#![tactic(auto)]
+
+mod groups;
+mod inlanes;
+mod mailboxes;
+mod messages;
+mod outboxes;
+mod outlanes;
+mod sockets;
+#[cfg(test)]
+mod tests;
+
+pub use groups::ports;
+pub use mailboxes::Mailbox;
+pub use messages::{Body, Envelope, Polled, Vote};
+pub use outboxes::Outbox;
+pub use sockets::Port;

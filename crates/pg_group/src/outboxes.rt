@@ -1,0 +1,47 @@
+ghost use Rattle.std.specs.Prelude.{◌≡◌, ℕ, Bool, false, List, OnOk, OnErr, IfErr};
+ghost use Rattle.pg_group.specs.declared.messages.Body.{Body};
+ghost use Rattle.pg_group.specs.declared.messages.Body.TheVariants.{Item};
+ghost use Rattle.pg_group.specs.Ranked.{IsOther, append_at, flag_at};
+
+use pg_base::RankNo;
+use pg_lane::Full;
+
+/// Where a rank puts its messages to the other ranks of its group.
+pub trait Outbox<B> {
+    /// The rank that sends.
+    ghost own: { Self → ℕ };
+
+    /// How many ranks the group has.
+    ghost size: { Self → ℕ };
+
+    /// What was sent to each rank, by rank. What it sent to itself is nothing.
+    ghost sent: { Self → List (List (Body B)) };
+
+    /// Whether the mark of this round was sent to each rank, by rank.
+    ghost marks_sent: { Self → List Bool };
+
+    /// What the outbox before and after a call tells of a moment in between at which the lane to a rank was
+    /// full.
+    ghost saw_full: { Self → ℕ → Self → Type 0 };
+
+    /// All else that the outbox keeps is the same.
+    ghost SameRest: { Self → Self → Type 0 };
+
+    /// Sends an item to another rank. `Full` comes only where the lane to that rank was full at one moment
+    /// of this call; the item comes back and nothing was sent.
+    fn send(&mut self, to: RankNo, item: B) -> Result<(), Full<B>>
+        requires other { IsOther (own self.old) (size self.old) to.0 }
+        requires unmarked { flag_at (marks_sent self.old) to.0 ≡ false }
+        ensures ok { OnOk result (sent self.new ≡ append_at (sent self.old) to.0 (Item item)) }
+        ensures refused { IfErr result (λ full. full.0 ≡ item) }
+        ensures stays { OnErr result (sent self.new ≡ sent self.old) }
+        ensures cause { OnErr result (saw_full self.old to.0 self.new) }
+        ensures same_own { own self.new ≡ own self.old }
+        ensures same_size { size self.new ≡ size self.old }
+        ensures same_marks { marks_sent self.new ≡ marks_sent self.old }
+        ensures rest { SameRest self.old self.new };
+
+    ghost same_rest_refl: { (o : Self) → SameRest o o };
+
+    ghost same_rest_trans: { (o p q : Self) → SameRest o p → SameRest p q → SameRest o q };
+}

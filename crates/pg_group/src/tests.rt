@@ -1,0 +1,96 @@
+ghost use Rattle.std.specs.Prelude.{◌≡◌, ◌+◌, false};
+ghost use Rattle.pg_group.specs.Ranked.{flag_at};
+
+use super::*;
+use pg_base::{RankNo, Ranks};
+use pg_lane::{ArrayLanes, Full};
+use std::test::*;
+
+#[test]
+fn a_group_has_a_port_for_each_rank(rt: HostRuntime) -> Result<(), Fail> {
+    for count in [1, 2, 3, 32] {
+        let ranks = Ranks::new(count).ok_or("no number of ranks")?;
+        let narrow = ports::<u32, ArrayLanes<HostRuntime>>(&rt, rt.alloc(), ranks, 1)?;
+        assert_eq!(rt; narrow.len(), count as usize);
+        let wide = ports::<u32, ArrayLanes<HostRuntime>>(&rt, rt.alloc(), ranks, 1024)?;
+        assert_eq!(rt; wide.len(), count as usize);
+    }
+    Ok(())
+}
+
+const LEFT: RankNo = RankNo(0);
+
+const RIGHT: RankNo = RankNo(1);
+
+const VOTE: Vote = Vote {
+    a: 1,
+    b: 2,
+    c: 3,
+    d: 4,
+};
+
+type Sends = (Result<(), Full<u32>>, Result<(), Full<Vote>>);
+
+type Polls = (Polled<u32>, Polled<u32>, Polled<u32>);
+
+// The left of two ranks sends an item and its mark, and the right one polls three times.
+fn send_right<M: Mailbox<u32>>(left: &mut M, right: &mut M) -> (Sends, Polls)
+    requires left { (M.own left.old ≡ 0) × (M.size left.old ≡ 2) }
+    requires right { (M.own right.old ≡ 1) × (M.size right.old ≡ 2) }
+    requires unmarked { flag_at (M.marks_sent left.old) 1 ≡ false }
+    ensures left { (M.own left.new ≡ 0) × (M.size left.new ≡ 2) }
+    ensures right { (M.own right.new ≡ 1) × (M.size right.new ≡ 2) }
+    ensures unmarked { M.marks_sent right.new ≡ M.marks_sent right.old }
+{
+    let sends = (left.send(RIGHT, 5), left.send_mark(RIGHT, VOTE));
+    let polls = (right.poll(LEFT), right.poll(LEFT), right.poll(LEFT));
+    (sends, polls)
+}
+
+type Answered = (Polled<u32>, Result<(), Full<Vote>>, Polled<u32>);
+
+// The left of two ranks polls before and after the right one sends its mark.
+fn mark_left<M: Mailbox<u32>>(left: &mut M, right: &mut M) -> Answered
+    requires left { (M.own left.old ≡ 0) × (M.size left.old ≡ 2) }
+    requires right { (M.own right.old ≡ 1) × (M.size right.old ≡ 2) }
+    requires unmarked { flag_at (M.marks_sent right.old) 0 ≡ false }
+    ensures left { (M.own left.new ≡ 0) × (M.size left.new ≡ 2) }
+    ensures right { (M.own right.new ≡ 1) × (M.size right.new ≡ 2) }
+{
+    let before = left.poll(RIGHT);
+    let sent = right.send_mark(LEFT, VOTE);
+    (before, sent, left.poll(RIGHT))
+}
+
+// Begins the next round of one of two ranks, if this one has ended.
+fn end_round<M: Mailbox<u32>>(port: &mut M, other: RankNo) -> bool
+    requires pair { (M.own port.old + other.0 ≡ 1) × (M.size port.old ≡ 2) }
+    ensures own { M.own port.new ≡ M.own port.old }
+    ensures size { M.size port.new ≡ M.size port.old }
+{
+    let ended = port.marked(other) && port.closed(other);
+    if ended {
+        port.next_round();
+    }
+    ended
+}
+
+#[test]
+fn a_round_of_two_ranks_ends_with_their_marks(rt: HostRuntime) -> Result<(), Fail> {
+    let ranks = Ranks::new(2).ok_or("no number of ranks")?;
+    let mut group = ports::<u32, ArrayLanes<HostRuntime>>(&rt, rt.alloc(), ranks, 2)?;
+    let mut right = group.pop().ok_or("no right port")?;
+    let mut left = group.pop().ok_or("no left port")?;
+    let (sends, polls) = send_right(&mut left, &mut right);
+    assert_eq!(rt; sends, (Ok(()), Ok(())));
+    assert_eq!(rt;
+        polls,
+        (Polled::Item(5), Polled::Mark(VOTE), Polled::Closed)
+    );
+    let answered = mark_left(&mut left, &mut right);
+    assert_eq!(rt; answered, (Polled::Empty, Ok(()), Polled::Mark(VOTE)));
+    assert!(rt; end_round(&mut left, RIGHT));
+    assert!(rt; end_round(&mut right, LEFT));
+    assert_eq!(rt; right.poll(LEFT), Polled::Empty);
+    Ok(())
+}
