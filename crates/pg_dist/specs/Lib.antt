@@ -1,0 +1,5 @@
+pub mod Blocks
+pub mod BlockLaws
+pub mod Owners
+pub mod OwnerLaws
+pub mod Tables
