@@ -1,0 +1,7 @@
+mod KeyedRows
+mod TwoEnds
+mod RowsMore
+mod HoldersMore
+mod Laws
+mod PartsOf
+mod Directed

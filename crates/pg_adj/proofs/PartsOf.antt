@@ -1,0 +1,223 @@
+-- Every part of a division meets what is so of every portion.
+use Rattle.std.proofs.Common.{◌≡◌, ◌≢◌, ℕ, ◌+◌, ◌-◌, ◌<◌, ◌≤◌, true, eqb, not, ◌&&◌, List, [], ◌∷◌, ◌++◌, length, get_or, map, filter, All, sym, ap, subst, refl, ◌∙◌, inl, inr, arith, zero, suc}
+use Rattle.std.proofs.lemmas.Bool.{cases_eq, eq-eqb, ne_eqb}
+use Rattle.std.proofs.lemmas.List.{length_push, length-map, get_or_at, length-append, get_or-map}
+use Rattle.std.proofs.lemmas.List.Sums.{length-filter, count_by-le-length}
+use Rattle.std.proofs.lemmas.List.Folds.{Any-from_list_any}
+use Rattle.std.proofs.lemmas.List.Elements.{All-nil, All-cons, All-append, All-map, All-push, All-weaker, All-filter, All-head, All-tail, filter_passes}
+use Rattle.pg_base.specs.declared.edges.Edge.{Edge}
+use Rattle.pg_base.specs.Graph.{Graph, IsEdge, IsGraph}
+use Rattle.pg_adj.specs.declared.arcs.Arc.{Arc}
+use Rattle.pg_adj.specs.declared.arcs.Ghost.{Ghost}
+use Rattle.pg_adj.specs.declared.arcs.Holder.{Holder}
+use Rattle.pg_adj.specs.declared.shares.Share.{Share}
+use Rattle.pg_adj.specs.Portions.{Portion, IsVertex, IsForeign, IsOwnArc, IsPortion, row_of}
+use Rattle.pg_adj.specs.Keyed.{items_of, AreRowsByKey}
+use Rattle.pg_adj.specs.Holdings.{holdings, holdings_of}
+use Rattle.pg_adj.specs.Division.{Sharing, AreRows, IsShare, IsPartOf, arc_at, arcs_at, other_end, no_edge, leads_abroad, vertices_to, ghost_of, ghosts_of, undivided}
+use Rattle.std.specs.List.{AllPairs}
+use Rattle.pg_adj.proofs.Directed.{directed, ascending}
+use Rattle.pg_adj.specs.Shares.{ghost_lists, IsShareOf, AreGhostLists}
+use Rattle.pg_adj.proofs.KeyedRows.{items_of-append}
+use Rattle.pg_adj.proofs.Laws.{Laws, count-le, own_within, all_from_rows, end_within, all_arcs_at, homes_known, rows_same}
+
+length-vertices_to : (n : ℕ) → length (vertices_to n) ≡ n
+length-vertices_to zero = refl
+length-vertices_to (suc n) = let h = length-vertices_to n in omega (arith, length_push (vertices_to n) (n + 1))
+
+vertices_to-within : (n : ℕ) → All (IsVertex n) (vertices_to n)
+vertices_to-within zero = All-nil (IsVertex zero)
+vertices_to-within (suc n) = All-push (IsVertex (suc n)) (vertices_to n) (n + 1)
+    (All-weaker (IsVertex n) (IsVertex (suc n)) (λ v h. record { first = h.first; last = omega (arith, h.last) }) (vertices_to n) (vertices_to-within n))
+    (record { first = omega arith; last = omega arith })
+
+-- What is so of a ghost of the rank r.
+pub record IsGhostOf (s : Sharing) (r : ℕ) (g : Ghost) : Type 0 where
+  pub vertex : IsVertex s.n g.vertex.0
+  pub abroad : s.owner g.vertex.0 ≢ r
+  pub home : g.home.0 ≡ s.owner g.vertex.0
+
+test_says : (a : Arc) (r v : ℕ) → (eqb a.to.0 v && not (eqb a.home.0 r)) ≡ true → (a.to.0 ≡ v) × (a.home.0 ≢ r)
+test_says a r v = elim (cases_eq a.to.0 v) as (λ w. (eqb a.to.0 v && not (eqb a.home.0 r)) ≡ true → (a.to.0 ≡ v) × (a.home.0 ≢ r)) [
+  | inl same ↦ elim (cases_eq a.home.0 r) as (λ w. (eqb a.to.0 v && not (eqb a.home.0 r)) ≡ true → (a.to.0 ≡ v) × (a.home.0 ≢ r)) [
+    | inl home ↦ rw (eq-eqb a.to.0 v same, eq-eqb a.home.0 r home) (λ h. cc)
+    | inr other ↦ λ h. (same, other)
+  ]
+  | inr other ↦ rw (ne_eqb a.to.0 v other) (λ h. cc)
+]
+
+ghost_ok : (s : Sharing) (r : ℕ) (arcs : List Arc) (v : ℕ) → All (λ a. a.home.0 ≡ s.owner a.to.0) arcs → IsVertex s.n v → leads_abroad r arcs v ≡ true → IsGhostOf s r (ghost_of s.owner s.local v)
+ghost_ok s r arcs v homes is leads =
+    let found = Any-from_list_any (λ (a : Arc). eqb a.to.0 v && not (eqb a.home.0 r)) arcs leads in
+    let a : Arc = found.1 in
+    let says = test_says a r v found.4 in
+    let home : a.home.0 ≡ s.owner a.to.0 = subst (λ (b : Arc). b.home.0 ≡ s.owner b.to.0) found.3 (homes found.0 a found.2) in
+    record { vertex = is; abroad = λ e. says.1 (home ∙ (ap s.owner says.0 ∙ e)); home = refl }
+
+pub ghosts_ok : (s : Sharing) (r : ℕ) (arcs : List Arc) → All (λ a. a.home.0 ≡ s.owner a.to.0) arcs → All (IsGhostOf s r) (ghosts_of s.owner s.local s.n r arcs)
+ghosts_ok s r arcs homes =
+    let vs : List ℕ = filter (leads_abroad r arcs) (vertices_to s.n) in
+    let within = All-filter (leads_abroad r arcs) (IsVertex s.n) (vertices_to s.n) (vertices_to-within s.n) in
+    let passes = filter_passes (leads_abroad r arcs) (vertices_to s.n) in
+    All-map (IsGhostOf s r) (ghost_of s.owner s.local) vs (λ k d l. ghost_ok s r arcs (get_or vs k d) homes (within k d l) (passes k d l))
+
+ghosts_short : (s : Sharing) (r : ℕ) (arcs : List Arc) → length (ghosts_of s.owner s.local s.n r arcs) ≤ s.n
+ghosts_short s r arcs =
+    let vs : List ℕ = filter (leads_abroad r arcs) (vertices_to s.n) in
+    omega (arith, length-map vs (ghost_of s.owner s.local), length-filter (leads_abroad r arcs) (vertices_to s.n), count_by-le-length (leads_abroad r arcs) (vertices_to s.n), length-vertices_to s.n)
+
+-- the ghosts of a share
+pub share_ghosts : (s : Sharing) (edges : List Edge) (r : ℕ) (vertices bounds : List ℕ) (arcs : List Arc) (ghosts : List Ghost) → IsShare s edges r vertices bounds arcs ghosts
+    → (All (IsGhostOf s r) ghosts) × (length ghosts ≤ s.n)
+share_ghosts s edges r vertices bounds arcs ghosts h = (
+  subst (λ (gs : List Ghost). All (IsGhostOf s r) gs) (sym h.ghost_list) (ghosts_ok s r arcs (homes_known s edges vertices bounds arcs h.row)),
+  subst (λ (gs : List Ghost). length gs ≤ s.n) (sym h.ghost_list) (ghosts_short s r arcs),
+)
+
+-- the ghosts of all shares
+pub record AreSharesOf (s : Sharing) (edges : List Edge) (shares : List Share) : Type 0 where
+  pub each : length shares ≡ s.ranks
+  pub share : (r : ℕ) (d : Share) → r < s.ranks → IsShareOf s edges r (get_or shares r d)
+
+list_facts : (s : Sharing) (edges : List Edge) (shares : List Share) (r : ℕ) (d : List Ghost) (e : Share) → AreSharesOf s edges shares → r < length shares
+    → (All (IsGhostOf s r) (get_or (ghost_lists shares) r d)) × (length (get_or (ghost_lists shares) r d) ≤ s.n)
+list_facts s edges shares r d e h l =
+    let is : IsShareOf s edges r (get_or shares r e) = h.share r e (omega (arith, h.each)) in
+    let x : Share = get_or shares r e in
+    let facts = share_ghosts s edges r x.vertices.items x.rows.bounds.items x.rows.arcs.items x.ghosts.items is in
+    subst (λ (gs : List Ghost). (All (IsGhostOf s r) gs) × (length gs ≤ s.n)) (sym (get_or-map (λ (x : Share). x.ghosts.items) shares r e d l)) facts
+
+first_share : (shares : List Share) (r : ℕ) → r < length shares → Share
+first_share [] r l = absurd (omega arith)
+first_share (x ∷ shares) r l = x
+
+pub lists_ok : (s : Sharing) → Laws s → (edges : List Edge) (shares : List Share) (n : ℕ) → s.ranks ≤ 32 → n ≡ s.n → AreSharesOf s edges shares → AreGhostLists n (ghost_lists shares)
+lists_ok s laws edges shares n few same h =
+    let size = length-map shares (λ (x : Share). x.ghosts.items) in
+    subst (λ (m : ℕ). AreGhostLists m (ghost_lists shares)) (sym same) (record {
+      ranks = omega (arith, h.each);
+      short = λ k d l. let l' : k < length shares = omega arith in (list_facts s edges shares k d (first_share shares k l') h l').1;
+      vertices = λ k d l. let l' : k < length shares = omega arith in
+          All-weaker (IsGhostOf s k) (λ g. IsVertex s.n g.vertex.0) (λ g f. f.vertex) (get_or (ghost_lists shares) k d) (list_facts s edges shares k d (first_share shares k l') h l').0;
+    })
+
+-- a holder of v is a rank that doesn't own it
+holders_of : (s : Sharing) (rank slot : ℕ) (ghosts : List Ghost) (v : ℕ) → All (IsGhostOf s rank) ghosts → All (λ h. (h.rank.0 ≡ rank) × (s.owner v ≢ rank)) (items_of (holdings_of rank slot ghosts) v)
+holders_of s rank slot [] v h = All-nil (λ (x : Holder). (x.rank.0 ≡ rank) × (s.owner v ≢ rank))
+holders_of s rank slot (g ∷ ghosts) v h =
+    let P : Holder → Type 0 = λ x. (x.rank.0 ≡ rank) × (s.owner v ≢ rank) in
+    let own = All-head (IsGhostOf s rank) g ghosts h in
+    let rest = holders_of s rank (slot + 1) ghosts v (All-tail (IsGhostOf s rank) g ghosts h) in
+    elim (cases_eq g.vertex.0 v) [
+      | inl same ↦ rw (eq-eqb g.vertex.0 v same) (All-cons P (record { rank = record { 0 = rank }; slot = slot }) (items_of (holdings_of rank (slot + 1) ghosts) v)
+          (refl, λ e. own.abroad (ap s.owner same ∙ e)) rest)
+      | inr other ↦ rw (ne_eqb g.vertex.0 v other) rest
+    ]
+
+holders_all : (s : Sharing) (rank : ℕ) (lists : List (List Ghost)) (v : ℕ) → ((k : ℕ) (d : List Ghost) → k < length lists → All (IsGhostOf s (rank + k)) (get_or lists k d))
+    → All (λ h. (h.rank.0 < rank + length lists) × (h.rank.0 ≢ s.owner v)) (items_of (holdings rank lists) v)
+holders_all s rank [] v h = All-nil (λ (x : Holder). (x.rank.0 < rank + 0) × (x.rank.0 ≢ s.owner v))
+holders_all s rank (gs ∷ lists) v h =
+    let P : Holder → Type 0 = λ x. (x.rank.0 < rank + length (gs ∷ lists)) × (x.rank.0 ≢ s.owner v) in
+    let zero_more : rank + 0 ≡ rank = omega arith in
+    let own : All (IsGhostOf s rank) gs = subst (λ (r : ℕ). All (IsGhostOf s r) gs) zero_more (h 0 [] (omega arith)) in
+    let first : All P (items_of (holdings_of rank 0 gs) v) = All-weaker (λ x. (x.rank.0 ≡ rank) × (s.owner v ≢ rank)) P
+    (λ x f. (omega (arith, f.0), λ e. f.1 (sym e ∙ f.0))) (items_of (holdings_of rank 0 gs) v) (holders_of s rank 0 gs v own) in
+    let rest : All P (items_of (holdings (rank + 1) lists) v) = All-weaker (λ x. (x.rank.0 < rank + 1 + length lists) × (x.rank.0 ≢ s.owner v)) P
+    (λ x f. (omega (arith, f.0), f.1)) (items_of (holdings (rank + 1) lists) v)
+    (holders_all s (rank + 1) lists v (λ k d l. let next : rank + suc k ≡ rank + 1 + k = omega arith in
+    subst (λ (r : ℕ). All (IsGhostOf s r) (get_or lists k d)) next (h (suc k) d (omega arith)))) in
+    subst (λ (xs : List Holder). All P xs) (sym (items_of-append (holdings_of rank 0 gs) (holdings (rank + 1) lists) v))
+    (All-append P (items_of (holdings_of rank 0 gs) v) (items_of (holdings (rank + 1) lists) v) first rest)
+
+arc_ok : (s : Sharing) → Laws s → (g : Graph) → IsGraph g → g.n ≡ s.n → (r : ℕ) → r < s.ranks → (p : Portion) → p.rank ≡ r → p.ranks ≡ s.ranks → p.n ≡ g.n
+    → IsShare s g.edges r p.vertices p.bounds p.arcs p.ghosts → (v k : ℕ) → k < length g.edges → IsOwnArc p (arc_at s.owner s.local g.edges v k)
+arc_ok s laws g graph same r rank p is_rank is_ranks is_n share v k l =
+    let e : Edge = get_or g.edges k no_edge in
+    let edge = graph.within k no_edge l in
+    let to : ℕ = other_end e v in
+    let end : IsVertex s.n to = end_within s.n e v (subst (λ (n : ℕ). IsEdge n e) same edge) in
+    let owner = laws.owner_is_rank to end.first end.last in
+    let local = laws.local_below to end.first end.last in
+    let back = laws.global_of_local to end.first end.last in
+    record {
+      first = end.first;
+      last = omega (arith, end.last);
+      home = omega (arith, owner);
+      place = λ h.
+          let own : s.count (s.owner to) ≡ s.count r = ap s.count (h ∙ is_rank) in
+          omega (arith, local, share.count);
+      holds = λ h.
+          let at : s.owner to ≡ r = h ∙ is_rank in
+          let own : s.count (s.owner to) ≡ s.count r = ap s.count at in
+          share.vertex (s.local to) (omega (arith, local)) ∙ (ap (λ (i : ℕ). s.global i (s.local to)) (sym at) ∙ back);
+      weight = edge.weight;
+      edge = omega (arith, graph.size);
+    }
+
+pub portion_ok : (s : Sharing) → Laws s → (g : Graph) → IsGraph g → g.n ≡ s.n → (shares : List Share) → AreSharesOf s g.edges shares → (r : ℕ) → r < s.ranks
+    → (p : Portion) → IsPartOf s g (ghost_lists shares) r p → IsPortion p
+portion_ok s laws g graph same shares are r rank p h =
+    let size = length-map shares (λ (x : Share). x.ghosts.items) in
+    let ghosts = (share_ghosts s g.edges r p.vertices p.bounds p.arcs p.ghosts h.share).0 in
+    let few = count-le s laws r (length p.vertices) rank h.share.count in
+    let within = own_within s laws r p.vertices rank h.share.count h.share.vertex in
+    record {
+      rank = omega (arith, h.rank, h.ranks);
+      n = omega (arith, h.n, graph.vertices);
+      count = omega (arith, h.n);
+      vertices = All-weaker (IsVertex s.n) (IsVertex p.n) (λ v f. record { first = f.first; last = omega (arith, f.last, h.n) }) p.vertices within;
+      bounds = h.share.row.bounded;
+      arcs = all_from_rows (IsOwnArc p) (λ i. arcs_at s g.edges (get_or p.vertices i 0)) (length p.vertices) p.bounds p.arcs h.share.row
+          (λ i l. all_arcs_at (IsOwnArc p) s g.edges (get_or p.vertices i 0) (arc_ok s laws g graph same r rank p h.rank h.ranks h.n h.share (get_or p.vertices i 0)));
+      ghosts = All-weaker (IsGhostOf s r) (λ x. IsForeign p x.home.0) (λ x f.
+          let owner = laws.owner_is_rank x.vertex.0 f.vertex.first f.vertex.last in
+          record { below = omega (arith, f.home, h.ranks); other = λ e. f.abroad (sym f.home ∙ (e ∙ h.rank)) }) p.ghosts ghosts;
+      ghost_vertices = All-weaker (IsGhostOf s r) (λ x. IsVertex p.n x.vertex.0) (λ x f. record { first = f.vertex.first; last = omega (arith, f.vertex.last, h.n) }) p.ghosts ghosts;
+      holder_bounds = h.holders.bounded;
+      holders = all_from_rows (λ x. IsForeign p x.rank.0) (λ i. items_of (holdings 0 (ghost_lists shares)) (get_or p.vertices i 0)) (length p.vertices) p.holder_bounds p.holders h.holders
+          (λ i l.
+          let v : ℕ = get_or p.vertices i 0 in
+          let l' : i < s.count r = omega (arith, h.share.count) in
+          let owned : s.owner v ≡ r = ap s.owner (h.share.vertex i l') ∙ laws.owner_of_global r i rank l' in
+          All-weaker (λ x. (x.rank.0 < 0 + length (ghost_lists shares)) × (x.rank.0 ≢ s.owner v)) (λ x. IsForeign p x.rank.0)
+          (λ x f. record { below = omega (arith, f.0, h.ranks, are.each); other = λ e. f.1 (e ∙ (h.rank ∙ sym owned)) })
+          (items_of (holdings 0 (ghost_lists shares)) v)
+          (holders_all s 0 (ghost_lists shares) v (λ k d m. let m' : k < length shares = omega arith in
+          let zero_and : k ≡ 0 + k = omega arith in
+          subst (λ (q : ℕ). All (IsGhostOf s q) (get_or (ghost_lists shares) k d)) zero_and (list_facts s g.edges shares k d (first_share shares k m') are m').0)));
+    }
+
+-- the share that a loop over all of them is at
+pub current : (shares yielded rest rest' : List Share) (x : Share) → yielded ++ rest ≡ shares → rest ≡ x ∷ rest' → (length yielded < length shares) × (get_or shares (length yielded) x ≡ x)
+current shares yielded rest rest' x whole step =
+    let parts : yielded ++ x ∷ rest' ≡ shares = ap (λ (xs : List Share). yielded ++ xs) (sym step) ∙ whole in (
+      omega (arith, ap length parts, length-append yielded (x ∷ rest')),
+      ap (λ (xs : List Share). get_or xs (length yielded) x) (sym parts) ∙ get_or_at yielded x rest' x (length yielded) refl,
+    )
+
+-- a rank's share with the holders of its vertices is its part
+pub part_is : (s : Sharing) → Laws s → (g : Graph) → IsGraph g → g.n ≡ s.n → (shares : List Share) → AreSharesOf s g.edges shares → (r : ℕ) → r < s.ranks → (x : Share) → get_or shares r x ≡ x
+    → (bounds : List ℕ) (items : List Holder) → AreRowsByKey (holdings 0 (ghost_lists shares)) g.n bounds items
+    → (p : Portion) → p.rank ≡ r → p.ranks ≡ s.ranks → p.n ≡ g.n → p.vertices ≡ x.vertices.items → p.bounds ≡ x.rows.bounds.items → p.arcs ≡ x.rows.arcs.items → p.ghosts ≡ x.ghosts.items
+    → (lent : List ℕ) → lent ≡ p.vertices → AreRows (λ i. row_of bounds items (get_or lent i 0 - 1)) (length lent) p.holder_bounds p.holders
+    → IsPartOf s g (ghost_lists shares) r p
+part_is s laws g graph same shares are r rank x at bounds items keyed p er es en ev eb ea eg lent el rows =
+    let own : IsShareOf s g.edges r x = subst (λ (y : Share). IsShareOf s g.edges r y) at (are.share r x rank) in
+    let share : IsShare s g.edges r p.vertices p.bounds p.arcs p.ghosts = rw (ev, eb, ea, eg) own in
+    let within = own_within s laws r p.vertices rank share.count share.vertex in
+    let rows' : AreRows (λ i. row_of bounds items (get_or p.vertices i 0 - 1)) (length p.vertices) p.holder_bounds p.holders =
+    subst (λ (xs : List ℕ). AreRows (λ i. row_of bounds items (get_or xs i 0 - 1)) (length xs) p.holder_bounds p.holders) el rows in
+    record {
+      rank = er;
+      ranks = es;
+      n = en;
+      share = share;
+      arcs = λ i l. ap (λ xs. map (undivided (get_or p.vertices i 0)) xs) (share.row.row i l) ∙ directed s g graph (get_or p.vertices i 0);
+      ascend = λ i l. subst (λ xs. AllPairs (λ a b. a.to.0 < b.to.0) xs) (sym (share.row.row i l)) (ascending s g graph (get_or p.vertices i 0));
+      holders = rows_same (λ i. row_of bounds items (get_or p.vertices i 0 - 1)) (λ i. items_of (holdings 0 (ghost_lists shares)) (get_or p.vertices i 0)) (length p.vertices) p.holder_bounds p.holders rows'
+          (λ i l.
+          let is = within i 0 l in
+          let next : get_or p.vertices i 0 - 1 + 1 ≡ get_or p.vertices i 0 = omega (arith, is.first) in
+          keyed.row (get_or p.vertices i 0 - 1) (omega (arith, is.first, is.last)) ∙ ap (λ (v : ℕ). items_of (holdings 0 (ghost_lists shares)) v) next);
+    }

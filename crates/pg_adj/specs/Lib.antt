@@ -1,0 +1,6 @@
+pub mod Portions
+pub mod Keyed
+pub mod Incidence
+pub mod Division
+pub mod Holdings
+pub mod Shares

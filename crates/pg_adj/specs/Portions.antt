@@ -1,0 +1,62 @@
+-- What one rank holds of a divided graph, and what is so of every such portion.
+-- Source: Gregor and Lumsdaine, Lifting Sequential Graph Algorithms for Distributed-Memory Parallel
+-- Computation (OOPSLA 2005): distributed adjacency lists and ghost cells.
+use Rattle.std.specs.Prelude.{◌≡◌, ◌≢◌, ℕ, ◌+◌, ◌<◌, ◌≤◌, List, length, All, slice_index, slice_range}
+use Rattle.pg_base.specs.declared.TheConstants.{MAX_VERTICES, MAX_EDGES}
+use Rattle.pg_adj.specs.declared.arcs.Arc.{Arc}
+use Rattle.pg_adj.specs.declared.arcs.Ghost.{Ghost}
+use Rattle.pg_adj.specs.declared.arcs.Holder.{Holder}
+
+-- The own vertices by their places, their arcs and holders in compressed rows, and the ghosts.
+pub record Portion : Type 0 where
+  pub rank : ℕ
+  pub ranks : ℕ
+  pub n : ℕ
+  pub vertices : List ℕ
+  pub bounds : List ℕ
+  pub arcs : List Arc
+  pub ghosts : List Ghost
+  pub holder_bounds : List ℕ
+  pub holders : List Holder
+
+-- Row i, from bound i to bound i + 1 of the items.
+abbrev pub row_of : {X : Type 0} → List ℕ → List X → ℕ → List X
+row_of bounds items i = slice_range items (slice_index bounds i) (slice_index bounds (i + 1))
+
+-- The bounds of this many rows ascend, and lie within so many items.
+pub record AreBounds (count : ℕ) (bounds : List ℕ) (size : ℕ) : Type 0 where
+  pub each : length bounds ≡ count + 1
+  pub ascend : (i : ℕ) → i < count → slice_index bounds i ≤ slice_index bounds (i + 1)
+  pub within : (i : ℕ) → i ≤ count → slice_index bounds i ≤ size
+
+-- A rank of the group that isn't the portion's own.
+pub record IsForeign (p : Portion) (r : ℕ) : Type 0 where
+  pub below : r < p.ranks
+  pub other : r ≢ p.rank
+
+-- An arc leads to a vertex of the graph. Where that is an own one, the arc's place holds it.
+pub record IsOwnArc (p : Portion) (a : Arc) : Type 0 where
+  pub first : 1 ≤ a.to.0
+  pub last : a.to.0 ≤ p.n
+  pub home : a.home.0 < p.ranks
+  pub place : a.home.0 ≡ p.rank → a.place < length p.vertices
+  pub holds : a.home.0 ≡ p.rank → slice_index p.vertices a.place ≡ a.to.0
+  pub weight : 1 ≤ a.w
+  pub edge : a.edge < MAX_EDGES
+
+-- A vertex of the graph.
+pub record IsVertex (n : ℕ) (v : ℕ) : Type 0 where
+  pub first : 1 ≤ v
+  pub last : v ≤ n
+
+pub record IsPortion (p : Portion) : Type 0 where
+  pub rank : p.rank < p.ranks
+  pub n : p.n ≤ MAX_VERTICES
+  pub count : length p.vertices ≤ p.n
+  pub vertices : All (IsVertex p.n) p.vertices
+  pub bounds : AreBounds (length p.vertices) p.bounds (length p.arcs)
+  pub arcs : All (IsOwnArc p) p.arcs
+  pub ghosts : All (λ g. IsForeign p g.home.0) p.ghosts
+  pub ghost_vertices : All (λ g. IsVertex p.n g.vertex.0) p.ghosts
+  pub holder_bounds : AreBounds (length p.vertices) p.holder_bounds (length p.holders)
+  pub holders : All (λ h. IsForeign p h.rank.0) p.holders

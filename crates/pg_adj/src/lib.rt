@@ -1,0 +1,17 @@
+//! Graphs divided among ranks: at each rank the arcs of its own vertices, the vertices of other ranks that
+//! these arcs lead to (its ghosts), and for each own vertex the ranks that hold it as a ghost.
+#![tactic(auto)]
+
+mod arcs;
+mod holders;
+mod incidence;
+mod parts;
+mod rows;
+mod shares;
+mod splitting;
+#[cfg(test)]
+mod tests;
+
+pub use arcs::{Arc, Ghost, Holder};
+pub use parts::Part;
+pub use splitting::split;

@@ -1,0 +1,168 @@
+ghost use Rattle.std.specs.Prelude.{◌≡◌, ◌≢◌, ◌<◌, ◌≤◌, All, length, slice_index};
+ghost use Rattle.pg_adj.specs.Portions.{IsOwnArc, IsForeign, IsPortion, row_of};
+
+use crate::holders::HolderRows;
+use crate::shares::Share;
+use crate::{Arc, Ghost, Holder};
+use pg_base::{RankNo, Ranks, Vertex};
+use std::marker::Model;
+
+/// What one rank holds of a divided graph. Its own vertices have the places from 0 to its count; the arcs
+/// of one place lie side by side, and so do its holders.
+#[derive(Debug, Drop)]
+pub struct Part {
+    rank: RankNo,
+    ranks: Ranks,
+    n: u32,
+    vertices: Vec<u32>,
+    bounds: Vec<usize>,
+    arcs: Vec<Arc>,
+    ghosts: Vec<Ghost>,
+    holder_bounds: Vec<usize>,
+    holders: Vec<Holder>,
+}
+
+impl Model for Part {
+    ghost use Rattle.pg_adj.specs.Portions.{Portion, IsPortion};
+
+    ghost Value = { Portion };
+
+    ghost view = { λ p. record {
+      rank = p.rank.0;
+      ranks = p.ranks;
+      n = p.n;
+      vertices = p.vertices.items;
+      bounds = p.bounds.items;
+      arcs = p.arcs.items;
+      ghosts = p.ghosts.items;
+      holder_bounds = p.holder_bounds.items;
+      holders = p.holders.items;
+    } };
+
+    ghost invariant = { λ p. IsPortion (record {
+      rank = p.rank.0;
+      ranks = p.ranks;
+      n = p.n;
+      vertices = p.vertices.items;
+      bounds = p.bounds.items;
+      arcs = p.arcs.items;
+      ghosts = p.ghosts.items;
+      holder_bounds = p.holder_bounds.items;
+      holders = p.holders.items;
+    }) };
+}
+
+impl Part {
+    // A rank's share with the holders of its vertices.
+    pub(crate) fn of_share(
+        rank: RankNo,
+        ranks: Ranks,
+        n: u32,
+        share: Share,
+        rows: HolderRows,
+    ) -> Part
+        requires { IsPortion (record {
+          rank = rank.0;
+          ranks = ranks;
+          n = n;
+          vertices = share.vertices.items;
+          bounds = share.rows.bounds.items;
+          arcs = share.rows.arcs.items;
+          ghosts = share.ghosts.items;
+          holder_bounds = rows.bounds.items;
+          holders = rows.holders.items;
+        }) }
+        ensures { result ≡ record {
+          rank = rank.0;
+          ranks = ranks;
+          n = n;
+          vertices = share.vertices.items;
+          bounds = share.rows.bounds.items;
+          arcs = share.rows.arcs.items;
+          ghosts = share.ghosts.items;
+          holder_bounds = rows.bounds.items;
+          holders = rows.holders.items;
+        } }
+    {
+        Part {
+            rank,
+            ranks,
+            n,
+            vertices: share.vertices,
+            bounds: share.rows.bounds,
+            arcs: share.rows.arcs,
+            ghosts: share.ghosts,
+            holder_bounds: rows.bounds,
+            holders: rows.holders,
+        }
+    }
+
+    /// The rank that holds this part.
+    pub fn rank(&self) -> RankNo
+        ensures value { result.0 ≡ self.now.rank }
+        ensures below { result.0 < self.now.ranks }
+    {
+        self.rank
+    }
+
+    /// How many ranks the graph is divided among.
+    pub fn ranks(&self) -> Ranks
+        ensures { result ≡ self.now.ranks }
+    {
+        self.ranks
+    }
+
+    /// The number of vertices of the whole graph.
+    pub fn n(&self) -> u32
+        ensures { result ≡ self.now.n }
+    {
+        self.n
+    }
+
+    /// How many vertices this rank owns.
+    pub fn count(&self) -> u32
+        ensures { result ≡ length self.now.vertices }
+    {
+        self.vertices.len() as u32
+    }
+
+    /// The own vertex at the place `i`.
+    pub fn vertex(&self, i: u32) -> Vertex
+        requires { i < length self.now.vertices }
+        ensures value { result.0 ≡ slice_index self.now.vertices i }
+        ensures first { 1 ≤ result.0 }
+        ensures last { result.0 ≤ self.now.n }
+    {
+        Vertex(self.vertices[i as usize])
+    }
+
+    /// The arcs from the own vertex at the place `i`, ascending in `to`.
+    pub fn arcs(&self, i: u32) -> &[Arc]
+        requires { i < length self.now.vertices }
+        ensures row { result.now ≡ row_of self.now.bounds self.now.arcs i }
+        ensures own { All (IsOwnArc self.now) result.now }
+    {
+        let begin = self.bounds[i as usize];
+        let end = self.bounds[i as usize + 1];
+        &self.arcs[begin..end]
+    }
+
+    /// The vertices of other ranks that an own vertex has an arc to, ascending, each once.
+    pub fn ghosts(&self) -> &[Ghost]
+        ensures value { result.now ≡ self.now.ghosts }
+        ensures foreign { All (λ g. IsForeign self.now g.home.0) result.now }
+    {
+        &self.ghosts
+    }
+
+    /// The ranks that hold the own vertex at the place `i` as a ghost, ascending.
+    pub fn holders(&self, i: u32) -> &[Holder]
+        requires { i < length self.now.vertices }
+        ensures row { result.now ≡ row_of self.now.holder_bounds self.now.holders i }
+        ensures foreign { All (λ h. IsForeign self.now h.rank.0) result.now }
+    {
+        let begin = self.holder_bounds[i as usize];
+        let end = self.holder_bounds[i as usize + 1];
+        &self.holders[begin..end]
+    }
+}
