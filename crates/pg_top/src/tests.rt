@@ -137,6 +137,17 @@ fn words_that_are_no_command_line_are_refused(rt: HostRuntime) -> Result<(), Fai
 }
 
 #[test]
+fn words_that_end_early_are_refused(rt: HostRuntime) -> Result<(), Fail> {
+    let alloc = rt.alloc();
+    let words = ["bfs", "B"];
+    let seen = run(alloc, &words, PATH, Vec::new(alloc), Vec::new(alloc))?;
+    assert_eq!(rt; seen.status, Status::BadWords);
+    assert_eq!(rt; seen.out.text(), b"".as_slice());
+    assert_eq!(rt; seen.errs.text(), b"bad words\n".as_slice());
+    Ok(())
+}
+
+#[test]
 fn a_failed_or_missing_read_is_told(rt: HostRuntime) -> Result<(), Fail> {
     let alloc = rt.alloc();
     for (name, failing) in [("B", 1), ("B", 2), ("B", 9), ("C", 50)] {
