@@ -8,7 +8,7 @@ use Rattle.std.proofs.lemmas.List.Kept.{AllPairs-cons}
 use Rattle.pg_base.specs.declared.edges.Edge.{Edge}
 use Rattle.pg_base.specs.Graph.{Graph, Arc as GraphArc, IsEdge, IsGraph, Precedes, forward, backward, arcs_of, arcs_from}
 use Rattle.pg_adj.specs.declared.arcs.Arc.{Arc}
-use Rattle.pg_adj.specs.Keyed.{items_of}
+use Rattle.pg_base.specs.Keyed.{items_of}
 use Rattle.pg_adj.specs.Incidence.{incidences}
 use Rattle.pg_adj.specs.Division.{Sharing, arc_from, arc_at, arcs_at, no_edge, undivided}
 

@@ -6,10 +6,10 @@ use Rattle.pg_adj.specs.declared.arcs.Ghost.{Ghost}
 use Rattle.pg_adj.specs.declared.arcs.Holder.{Holder}
 use Rattle.pg_adj.specs.declared.shares.Share.{Share}
 use Rattle.pg_adj.specs.Portions.{IsVertex}
-use Rattle.pg_adj.specs.Keyed.{Keyed, AreCounts, AreStarts, AreFilled}
+use Rattle.pg_base.specs.Keyed.{Keyed, AreCounts, AreStarts, AreFilled}
 use Rattle.pg_adj.specs.Holdings.{holdings_of, holdings}
 use Rattle.pg_adj.specs.Shares.{ghost_lists, AreGhostLists}
-use Rattle.pg_adj.proofs.KeyedRows.{counts_push, count_at_most, filled_room, filled_push}
+use Rattle.pg_base.proofs.KeyedRows.{counts_push, count_at_most, filled_room, filled_push}
 
 abbrev pub no_ghost : Ghost
 no_ghost = record { vertex = record { 0 = 0 }; home = record { 0 = 0 }; place = 0 }

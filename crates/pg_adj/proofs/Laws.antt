@@ -8,7 +8,7 @@ use Rattle.pg_base.specs.declared.edges.Edge.{Edge}
 use Rattle.pg_base.specs.Graph.{IsEdge}
 use Rattle.pg_adj.specs.declared.arcs.Arc.{Arc}
 use Rattle.pg_adj.specs.Portions.{IsVertex}
-use Rattle.pg_adj.specs.Keyed.{items_of}
+use Rattle.pg_base.specs.Keyed.{items_of}
 use Rattle.pg_adj.specs.Incidence.{incidences}
 use Rattle.pg_adj.specs.Division.{Sharing, AreRows, arc_at, arcs_at, other_end, no_edge}
 use Rattle.pg_adj.proofs.RowsMore.{row-within}

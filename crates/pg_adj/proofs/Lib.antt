@@ -1,4 +1,3 @@
-mod KeyedRows
 mod TwoEnds
 mod RowsMore
 mod HoldersMore

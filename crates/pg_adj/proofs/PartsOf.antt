@@ -11,14 +11,15 @@ use Rattle.pg_adj.specs.declared.arcs.Arc.{Arc}
 use Rattle.pg_adj.specs.declared.arcs.Ghost.{Ghost}
 use Rattle.pg_adj.specs.declared.arcs.Holder.{Holder}
 use Rattle.pg_adj.specs.declared.shares.Share.{Share}
-use Rattle.pg_adj.specs.Portions.{Portion, IsVertex, IsForeign, IsOwnArc, IsPortion, row_of}
-use Rattle.pg_adj.specs.Keyed.{items_of, AreRowsByKey}
+use Rattle.pg_adj.specs.Portions.{Portion, IsVertex, IsForeign, IsOwnArc, IsPortion}
+use Rattle.pg_base.specs.Keyed.{row_of}
+use Rattle.pg_base.specs.Keyed.{items_of, AreRowsByKey}
 use Rattle.pg_adj.specs.Holdings.{holdings, holdings_of}
 use Rattle.pg_adj.specs.Division.{Sharing, AreRows, IsShare, IsPartOf, arc_at, arcs_at, other_end, no_edge, leads_abroad, vertices_to, ghost_of, ghosts_of, undivided}
 use Rattle.std.specs.List.{AllPairs}
 use Rattle.pg_adj.proofs.Directed.{directed, ascending}
 use Rattle.pg_adj.specs.Shares.{ghost_lists, IsShareOf, AreGhostLists}
-use Rattle.pg_adj.proofs.KeyedRows.{items_of-append}
+use Rattle.pg_base.proofs.KeyedRows.{items_of-append}
 use Rattle.pg_adj.proofs.Laws.{Laws, count-le, own_within, all_from_rows, end_within, all_arcs_at, homes_known, rows_same}
 
 length-vertices_to : (n : ℕ) → length (vertices_to n) ≡ n

@@ -6,8 +6,9 @@ use Rattle.std.proofs.lemmas.List.{same_lists, length-append, length_push, get_o
 use Rattle.std.proofs.lemmas.List.Edits.{length-between, get_or-between}
 use Rattle.std.proofs.lemmas.List.Elements.{All-nil, All-cons, All-weaker}
 use Rattle.pg_base.specs.declared.edges.Edge.{Edge}
-use Rattle.pg_adj.specs.Portions.{row_of, IsVertex}
-use Rattle.pg_adj.specs.Keyed.{Keyed, AreRowsByKey, items_of}
+use Rattle.pg_adj.specs.Portions.{IsVertex}
+use Rattle.pg_base.specs.Keyed.{row_of}
+use Rattle.pg_base.specs.Keyed.{Keyed, AreRowsByKey, items_of}
 use Rattle.pg_adj.specs.Incidence.{incidences}
 use Rattle.pg_adj.specs.Division.{AreRows}
 

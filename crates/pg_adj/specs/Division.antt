@@ -6,8 +6,9 @@ use Rattle.pg_base.specs.declared.edges.Edge.{Edge}
 use Rattle.pg_adj.specs.declared.arcs.Arc.{Arc}
 use Rattle.pg_adj.specs.declared.arcs.Ghost.{Ghost}
 use Rattle.pg_base.specs.Graph.{Graph, Arc as GraphArc, arcs_of, arcs_from}
-use Rattle.pg_adj.specs.Portions.{Portion, row_of, AreBounds}
-use Rattle.pg_adj.specs.Keyed.{items_of}
+use Rattle.pg_adj.specs.Portions.{Portion}
+use Rattle.pg_base.specs.Keyed.{row_of, AreBounds}
+use Rattle.pg_base.specs.Keyed.{items_of}
 use Rattle.pg_adj.specs.Incidence.{incidences}
 use Rattle.pg_adj.specs.Holdings.{holdings}
 

@@ -2,7 +2,7 @@
 use Rattle.std.specs.Prelude.{ℕ, ◌+◌, List, [], ◌∷◌, ◌++◌}
 use Rattle.pg_adj.specs.declared.arcs.Ghost.{Ghost}
 use Rattle.pg_adj.specs.declared.arcs.Holder.{Holder}
-use Rattle.pg_adj.specs.Keyed.{Keyed}
+use Rattle.pg_base.specs.Keyed.{Keyed}
 
 -- Each ghost's vertex with the rank that holds it and its slot there, for a rank's ghosts from this slot on.
 abbrev pub holdings_of : ℕ → ℕ → List Ghost → List (Keyed Holder)

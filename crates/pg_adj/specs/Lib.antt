@@ -1,5 +1,4 @@
 pub mod Portions
-pub mod Keyed
 pub mod Incidence
 pub mod Division
 pub mod Holdings

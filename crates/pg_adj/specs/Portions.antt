@@ -1,8 +1,9 @@
 -- What one rank holds of a divided graph, and what is so of every such portion.
 -- Source: Gregor and Lumsdaine, Lifting Sequential Graph Algorithms for Distributed-Memory Parallel
 -- Computation (OOPSLA 2005): distributed adjacency lists and ghost cells.
-use Rattle.std.specs.Prelude.{◌≡◌, ◌≢◌, ℕ, ◌+◌, ◌<◌, ◌≤◌, List, length, All, slice_index, slice_range}
+use Rattle.std.specs.Prelude.{◌≡◌, ◌≢◌, ℕ, ◌+◌, ◌<◌, ◌≤◌, List, length, All, slice_index}
 use Rattle.pg_base.specs.declared.TheConstants.{MAX_VERTICES, MAX_EDGES}
+use Rattle.pg_base.specs.Keyed.{AreBounds}
 use Rattle.pg_adj.specs.declared.arcs.Arc.{Arc}
 use Rattle.pg_adj.specs.declared.arcs.Ghost.{Ghost}
 use Rattle.pg_adj.specs.declared.arcs.Holder.{Holder}
@@ -18,16 +19,6 @@ pub record Portion : Type 0 where
   pub ghosts : List Ghost
   pub holder_bounds : List ℕ
   pub holders : List Holder
-
--- Row i, from bound i to bound i + 1 of the items.
-abbrev pub row_of : {X : Type 0} → List ℕ → List X → ℕ → List X
-row_of bounds items i = slice_range items (slice_index bounds i) (slice_index bounds (i + 1))
-
--- The bounds of this many rows ascend, and lie within so many items.
-pub record AreBounds (count : ℕ) (bounds : List ℕ) (size : ℕ) : Type 0 where
-  pub each : length bounds ≡ count + 1
-  pub ascend : (i : ℕ) → i < count → slice_index bounds i ≤ slice_index bounds (i + 1)
-  pub within : (i : ℕ) → i ≤ count → slice_index bounds i ≤ size
 
 -- A rank of the group that isn't the portion's own.
 pub record IsForeign (p : Portion) (r : ℕ) : Type 0 where

@@ -2,16 +2,18 @@
 
 ghost use Rattle.std.specs.Prelude.{◌≡◌, ℕ, ◌+◌, ◌-◌, ◌*◌, ◌^◌, ◌<◌, ◌≤◌, ◌++◌, length, map, sum, All, IfOk, OnOk, slice_index};
 ghost use Rattle.pg_base.specs.declared.TheConstants.{MAX_RANKS, MAX_VERTICES};
-ghost use Rattle.pg_adj.specs.Portions.{AreBounds, IsVertex, row_of};
-ghost use Rattle.pg_adj.specs.Keyed.{AreCounts, AreStarts, AreFilled, AreRowsByKey, items_of};
+ghost use Rattle.pg_adj.specs.Portions.{IsVertex};
+ghost use Rattle.pg_base.specs.Keyed.{AreBounds, row_of};
+ghost use Rattle.pg_base.specs.Keyed.{AreCounts, AreStarts, AreFilled, AreRowsByKey, items_of};
 ghost use Rattle.pg_adj.specs.Holdings.{holdings};
 ghost use Rattle.pg_adj.specs.Division.{AreRows};
 ghost use Rattle.pg_adj.specs.Shares.{ghost_lists, AreGhostLists};
 
 use crate::Holder;
-use crate::rows::{item_count, place_item, row_at, sum_before};
+use crate::rows::item_count;
 use crate::shares::Share;
 use pg_base::RankNo;
+use pg_base::rows::{place_item, row_at, sum_before};
 use std::alloc::{AllocError, Global};
 
 /// The holders of each vertex, one vertex after another: those of the vertex v ascend from `bounds[v - 1]` to

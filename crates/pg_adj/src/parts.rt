@@ -1,5 +1,6 @@
 ghost use Rattle.std.specs.Prelude.{◌≡◌, ◌≢◌, ◌<◌, ◌≤◌, All, length, slice_index};
-ghost use Rattle.pg_adj.specs.Portions.{IsOwnArc, IsForeign, IsPortion, row_of};
+ghost use Rattle.pg_adj.specs.Portions.{IsOwnArc, IsForeign, IsPortion};
+ghost use Rattle.pg_base.specs.Keyed.{row_of};
 
 use crate::holders::HolderRows;
 use crate::shares::Share;

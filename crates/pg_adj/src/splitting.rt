@@ -2,7 +2,7 @@ ghost use Rattle.std.specs.Prelude.{◌≡◌, ℕ, ◌<◌, ◌≤◌, length, 
 ghost use Rattle.pg_base.specs.declared.TheConstants.{MAX_RANKS};
 ghost use Rattle.pg_adj.specs.Division.{Divided};
 ghost use Rattle.pg_adj.specs.Holdings.{holdings};
-ghost use Rattle.pg_adj.specs.Keyed.{AreRowsByKey};
+ghost use Rattle.pg_base.specs.Keyed.{AreRowsByKey};
 ghost use Rattle.pg_adj.specs.Shares.{IsShareOf, ghost_lists};
 ghost use Rattle.pg_adj.specs.declared.shares.Share.{Share};
 

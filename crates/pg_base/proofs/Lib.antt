@@ -3,3 +3,4 @@ pub mod WalkLemmas
 pub mod ArcLemmas
 pub mod KeyLemmas
 mod ExampleWalks
+pub mod KeyedRows

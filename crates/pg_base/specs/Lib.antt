@@ -6,3 +6,4 @@ pub mod Outcome
 pub mod WalkLaws
 pub mod KeyLaws
 pub mod Examples
+pub mod Keyed

@@ -8,6 +8,7 @@ mod gates;
 pub mod laws;
 mod numbers;
 mod outcomes;
+pub mod rows;
 
 pub use edges::{Edge, EdgeList};
 pub use gates::{Gate, OpenGate};

@@ -1,5 +1,5 @@
 use Rattle.std.proofs.Common.{arith, rules, ◌≤◌, ◌+◌}
-use Rattle.pg_adj.specs.Keyed.{AreCounts}
+use Rattle.pg_base.specs.Keyed.{AreCounts}
 use Rattle.pg_adj.specs.Shares.{ghost_lists}
 use Rattle.pg_adj.proofs.HoldersMore.{no_ghost, list_at, lists_below, held_vertex, at_first, at_last, counts_more, count_fits}
 use Rattle.pg_adj.proofs.holders.counts.Goals as goal

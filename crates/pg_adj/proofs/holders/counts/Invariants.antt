@@ -1,5 +1,5 @@
 use Rattle.std.proofs.Common.{take, ◌++◌}
-use Rattle.pg_adj.specs.Keyed.{AreCounts}
+use Rattle.pg_base.specs.Keyed.{AreCounts}
 use Rattle.pg_adj.specs.Holdings.{holdings, holdings_of}
 use Rattle.pg_adj.specs.Shares.{ghost_lists}
 use Rattle.pg_adj.proofs.holders.counts.Given as goal

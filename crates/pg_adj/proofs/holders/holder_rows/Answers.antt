@@ -1,6 +1,6 @@
 use Rattle.std.proofs.Common.{arith, ap, get_or, ℕ, List, ◌-◌, ◌∙◌, slice_index}
 use Rattle.pg_adj.specs.declared.arcs.Holder.{Holder}
-use Rattle.pg_adj.specs.Portions.{row_of}
+use Rattle.pg_base.specs.Keyed.{row_of}
 use Rattle.pg_adj.proofs.RowsMore.{rows_more}
 use Rattle.pg_adj.proofs.holders.holder_rows.Goals as goal
 

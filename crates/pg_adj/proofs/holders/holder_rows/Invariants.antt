@@ -1,5 +1,5 @@
 use Rattle.std.proofs.Common.{◌-◌, slice_index}
-use Rattle.pg_adj.specs.Portions.{row_of}
+use Rattle.pg_base.specs.Keyed.{row_of}
 use Rattle.pg_adj.specs.Division.{AreRows}
 use Rattle.pg_adj.proofs.holders.holder_rows.Given as goal
 

@@ -1,8 +1,8 @@
 use Rattle.std.proofs.Common.{arith, sym, subst, length, List, ℕ, ◌≡◌, refl}
-use Rattle.pg_adj.specs.Keyed.{AreStarts}
+use Rattle.pg_base.specs.Keyed.{AreStarts}
 use Rattle.pg_adj.specs.Holdings.{holdings}
 use Rattle.pg_adj.specs.Shares.{ghost_lists}
-use Rattle.pg_adj.proofs.KeyedRows.{rows-from_lent}
+use Rattle.pg_base.proofs.KeyedRows.{rows-from_lent}
 use Rattle.pg_adj.proofs.HoldersMore.{holdings_fit}
 use Rattle.pg_adj.proofs.holders.holdings_by_vertex.Goals as goal
 

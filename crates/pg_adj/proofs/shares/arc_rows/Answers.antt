@@ -1,5 +1,5 @@
 use Rattle.std.proofs.Common.{arith, ap, get_or, map, ℕ, List, slice_index}
-use Rattle.pg_adj.specs.Keyed.{items_of}
+use Rattle.pg_base.specs.Keyed.{items_of}
 use Rattle.pg_adj.specs.Incidence.{incidences}
 use Rattle.pg_adj.specs.Division.{arc_at}
 use Rattle.pg_adj.proofs.RowsMore.{rows_more, row_read, row-within}

@@ -1,5 +1,5 @@
 use Rattle.std.proofs.Common.{map, slice_index}
-use Rattle.pg_adj.specs.Keyed.{items_of}
+use Rattle.pg_base.specs.Keyed.{items_of}
 use Rattle.pg_adj.specs.Incidence.{incidences}
 use Rattle.pg_adj.specs.Division.{arc_at, AreRows}
 use Rattle.pg_adj.proofs.shares.arc_rows.Given as goal
