@@ -1,15 +1,42 @@
-pub mod Ascending
-pub mod ExampleTexts
-pub mod Graphs
-pub mod LineLemmas
-pub mod Neighbours
-pub mod NoFiles
+pub mod AheadContent
+pub mod GraphLemmas
+pub mod HeaderLemmas
+pub mod NeighbourLemmas
+pub mod AscendingLemmas
+pub mod NumberLemmas
 pub mod OneGraph
-pub mod Pairing
-pub mod Places
-pub mod PlainTexts
-pub mod Refusals
+pub mod ReadingLemmas
+pub mod RefusalLemmas
 pub mod RowLemmas
-pub mod Settling
-pub mod StepLemmas
-pub mod WordLemmas
+pub mod ToldLemmas
+mod ListLemmas
+mod SameMembers
+mod HeaderFaults
+mod LineFaults
+pub mod FaultLemmas
+mod EdgeArcs
+mod LineParts
+mod ContentLemmas
+pub mod FileFromEdges
+mod EdgesFromArcs
+mod MirrorFaults
+mod GraphLines
+pub mod FaultLaws
+mod LinesInOrder
+pub mod StableSorts
+pub mod Digits
+pub mod Mapped
+pub mod NamedArcs
+pub mod Marking
+pub mod MirrorLemmas
+pub mod Weights
+pub mod LowerEdges
+pub mod Runs
+pub mod Matching
+pub mod Settled
+pub mod PairedEdges
+mod PartLines
+pub mod PartsLemmas
+pub mod PartsReadingLemmas
+pub mod PartsRefusals
+pub mod PartsTexts

@@ -7,9 +7,9 @@ use Rattle.pg_base.specs.declared.edges.Edge.{Edge}
 use Rattle.pg_base.specs.Graph.{Graph, IsGraph, IsEdge, Precedes, Arc, forward, arcs_of, arcs_from}
 use Rattle.pg_base.proofs.Members.{contains_first, contains_later, contains_cases}
 use Rattle.pg_base.proofs.ArcLemmas.{IsDirectionOf, edge_of_arc, arcs_of_edge, arcs_from_leave, arc_is_within}
-use Rattle.pg_metis.specs.Text.{words}
+use Rattle.pg_text.specs.Text.{words}
 use Rattle.pg_metis.specs.File.{FileOf, Format, Header, IsLineOf, header_of, line_arcs}
-use Rattle.pg_metis.specs.FileLaws.{FilesAreOfOneGraph, PlainFilesAreOfOneGraph}
+use Rattle.pg_metis.specs.FileLaws.{FilesAreOfOneGraph}
 
 not_both : (d e : Edge) → Precedes d e → Precedes e d → ⊥
 not_both d e there back =
@@ -142,6 +142,3 @@ files_are_of_one_graph text g h p q =
     let arcs_format = subst (λ (f : Format). AreArcsFrom g.n (arcs_at f q.rest) h) format arcs in
     one_graph g.n (arcs_at p.format p.rest) g h p.graph q.graph refl n (file_arcs text g p)
     (subst (λ (ls : List (List ℕ)). AreArcsFrom g.n (arcs_at p.format ls) h) rest arcs_format)
-
-pub plain_files_are_of_one_graph : PlainFilesAreOfOneGraph
-plain_files_are_of_one_graph text g h p q = files_are_of_one_graph text g h p.file q.file

@@ -1,10 +1,10 @@
 -- Which graph a METIS graph file is of.
 -- Source: METIS 5.1 manual, section 4.1.1, in the profile of docs/FORMAT.md.
-use Rattle.std.specs.Prelude.{◌≡◌, ℕ, ◌+◌, ◌<◌, ◌≤◌, max, Bool, false, ◌&&◌, ◌||◌, ◌==◌, nat_lt, not, if◌then◌else◌, Option, Some, None, option_and_then, List, [], ◌∷◌, length, filter, map, drop, slice_index_or, All, IsPermutation}
+use Rattle.std.specs.Prelude.{◌≡◌, ℕ, ◌+◌, ◌<◌, ◌≤◌, max, Bool, ◌&&◌, ◌||◌, ◌==◌, nat_lt, not, if◌then◌else◌, Option, Some, None, option_and_then, List, [], ◌∷◌, length, filter, map, drop, slice_index_or, All, IsPermutation}
 use Rattle.std.specs.Option.{option_map}
 use Rattle.pg_base.specs.Graph.{Graph, IsGraph, Arc, arcs_of, arcs_from}
 use Rattle.pg_metis.specs.declared.TheConstants.{MAX_FILE_BYTES}
-use Rattle.pg_metis.specs.Text.{lines, words, is_comment, number, numbers}
+use Rattle.pg_text.specs.Text.{lines, words, is_comment, number, numbers}
 
 -- What the lines of the vertices hold beside neighbours: a size each, how many weights each, and whether
 -- each neighbour's edge has its weight.
@@ -93,9 +93,3 @@ pub record FileOf (text : List ℕ) (g : Graph) : Type 0 where
   pub enough : g.n ≤ length rest
   pub each : (i : ℕ) → i < g.n → IsLineOf format g (i + 1) (slice_index_or rest i [])
   pub nothing_after : All (λ line. words line ≡ []) (drop g.n rest)
-
--- Such a file with a header of two words and without comments.
-pub record IsPlain (text : List ℕ) (g : Graph) : Type 0 where
-  pub file : FileOf text g
-  pub header : length (words file.header) ≡ 2
-  pub no_comment : All (λ line. is_comment line ≡ false) (lines text)

@@ -1,7 +1,8 @@
 ghost use Rattle.std.specs.Prelude.{◌≡◌};
-ghost use Rattle.pg_metis.specs.declared.faults.GraphFault.TheVariants.{Failed, OutOfMemory};
+ghost use Rattle.pg_metis.specs.declared.faults.GraphFault.TheVariants.{OutOfMemory};
+ghost use Rattle.pg_metis.specs.Answers.{from_text};
 
-use pg_outside::Failed as InputFailed;
+use pg_text::TextFault;
 use std::alloc::{AllocError, AllocFailed};
 
 /// What is wrong with a line of a graph file.
@@ -27,11 +28,12 @@ pub enum Kind {
     Repeated,
     /// An edge weighs 0.
     ZeroWeight,
-    /// There are fewer lines than vertices; the line is the number of lines plus 1.
+    /// Fewer lines than vertices follow the header, comments aside; the line is the number of all lines
+    /// plus 1.
     MissingLines,
     /// A line after those of the vertices has a word.
     ExtraText,
-    /// The lines name other than m edges; the line is the header's.
+    /// The neighbours in all lines are not 2m in number; the line is the header's.
     WrongCount,
     /// The line of a vertex names a neighbour whose line doesn't name it.
     NoMirror,
@@ -44,7 +46,8 @@ pub enum Kind {
 /// Why no graph was read.
 #[derive(Clone, Copy, Debug, PartialEq, Eq)]
 pub enum GraphFault {
-    /// The file isn't a graph file: the first line, counted from 1, that shows it, and what is wrong there.
+    /// The file isn't a graph file: its first fault in the order of docs/FORMAT.md, as the line, counted from
+    /// 1, and what is wrong there.
     Refused { line: u64, kind: Kind },
     /// A read failed.
     Failed,
@@ -68,10 +71,17 @@ impl<T: Drop> From<AllocFailed<T>> for GraphFault {
     }
 }
 
-impl From<InputFailed> for GraphFault {
-    ghost from_gives = { λ _ fault. fault ≡ Failed };
+impl From<TextFault> for GraphFault {
+    ghost from_gives = { λ fault gives. gives ≡ from_text fault };
 
-    fn from(_error: InputFailed) -> GraphFault {
-        GraphFault::Failed
+    fn from(fault: TextFault) -> GraphFault {
+        match fault {
+            TextFault::Failed => GraphFault::Failed,
+            TextFault::TooLong { line } => GraphFault::Refused {
+                line,
+                kind: Kind::TooLong,
+            },
+            TextFault::OutOfMemory => GraphFault::OutOfMemory,
+        }
     }
 }

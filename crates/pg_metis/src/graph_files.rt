@@ -1,34 +1,78 @@
-ghost use Rattle.std.specs.Prelude.{◌≡◌, ◌≤◌, [], Some, IsTrue, IfOk, OnOk, IfSome};
-ghost use Rattle.pg_outside.specs.Faults.{Rose};
-ghost use Rattle.pg_metis.specs.Answers.{HasOtherHeader, IsNotPlain, IsRefusedAs, OnFailed, OnRefused};
-ghost use Rattle.pg_metis.specs.File.{IsPlain};
+//! From a graph file to its graph.
 
-use crate::mirror::edges_of;
-use crate::reading::read_table;
+ghost use Rattle.std.specs.Prelude.{◌≡◌, ◌≤◌, [], List, Some, IsTrue, IfOk, OnOk, IfSome, length};
+ghost use Rattle.pg_outside.specs.Faults.{Rose};
+ghost use Rattle.pg_metis.specs.Answers.{IsNotRefused, IsRefusedAs, OnFailed, OnRefused};
+ghost use Rattle.pg_base.specs.Graph.{Graph};
+ghost use Rattle.pg_metis.specs.Content.{NumberedLine};
+ghost use Rattle.pg_metis.specs.Fault.{Fault, fault_of, pairs_fault};
+ghost use Rattle.pg_metis.specs.File.{FileOf};
+ghost use Rattle.pg_metis.specs.Headers.{header_in};
+ghost use Rattle.pg_metis.specs.Reading.{AreLinesOf, AreRowsOf};
+ghost use Rattle.pg_metis.specs.Refusals.{LeavesWithin, told_at};
+
+use crate::pairing::{PairFault, edges_of};
+use crate::reading::{FileLines, read_file};
 use crate::{GraphFault, Kind};
 use pg_base::EdgeList;
 use pg_outside::Inputs;
 use std::alloc::Global;
 
-/// Reads the bytes that are left of the name begun last as a graph file with a header of two words and no
-/// comments, and answers its graph. The contents are these bytes.
+/// Reads the bytes that are left of the name begun last as a graph file, and answers its graph. The
+/// contents are these bytes.
 ///
-/// `Refused` comes exactly where the contents are no such file and no read failed before this was found;
-/// a first line that stays within [`crate::MAX_FILE_BYTES`] and has other than two words is `HeaderWords` in
-/// line 1. `Failed` comes only where the
-/// count of faults rose. After `Ok` the input was read to its end; after an `Err` it stands anywhere.
-/// Source: METIS 5.1 manual, section 4.1.1.
+/// `Refused` comes exactly where the contents have that first fault and no read failed before it was found.
+/// `Failed` comes only where the count of faults rose. After `Ok` the input was read to its end; after an
+/// `Err` it stands anywhere. Source: METIS 5.1 manual, section 4.1.1.
 pub fn read_graph<I: Inputs>(alloc: Global, inputs: &mut I) -> Result<EdgeList, GraphFault>
     requires { IsTrue (I.begun inputs.old) }
-    ensures ok { IfOk result (λ g. IfSome (I.left inputs.old) (λ text. IsPlain text g)) }
+    ensures ok { IfOk result (λ g. IfSome (I.left inputs.old) (λ text. FileOf text g)) }
     ensures end { OnOk result (IfSome (I.left inputs.old) (λ _. I.left inputs.new ≡ Some [])) }
-    ensures refused { OnRefused result (IfSome (I.left inputs.old) IsNotPlain) }
-    ensures header { IfSome (I.left inputs.old)
-        (λ text. HasOtherHeader text → IsRefusedAs result 1 Kind.HeaderWords) }
+    ensures refused { OnRefused result (λ fault. IfSome (I.left inputs.old) (λ text. fault_of text ≡ Some fault)) }
+    ensures malformed { IfSome (I.left inputs.old) (λ text. (fault : Fault) → fault_of text ≡ Some fault → IsRefusedAs result fault) }
+    ensures well_formed { IfSome (I.left inputs.old) (λ text. (g : Graph) → FileOf text g → IsNotRefused result) }
     ensures failed { OnFailed result (Rose (I.faults inputs.old) (I.faults inputs.new)) }
     ensures later { I.faults inputs.old ≤ I.faults inputs.new }
     ensures files { I.files inputs.new ≡ I.files inputs.old }
 {
-    let table = read_table(alloc, inputs)?;
-    edges_of(alloc, table)
+    let file = read_file(alloc, inputs)?;
+    graph_of(alloc, file)
+}
+
+/// The graph whose edges the lines of the vertices name.
+fn graph_of(alloc: Global, file: FileLines) -> Result<EdgeList, GraphFault>
+    requires read { (lines : List NumberedLine) × AreRowsOf (header_in file.header) file.header.n file.rows lines }
+    ensures ok { IfOk result (λ g. (lines : List NumberedLine) → AreRowsOf (header_in file.header) file.header.n file.rows lines → AreLinesOf (header_in file.header) lines g) }
+    ensures refused { OnRefused result (λ fault. (lines : List NumberedLine) → AreRowsOf (header_in file.header) file.header.n file.rows lines → pairs_fault (header_in file.header) file.header_line lines ≡ Some fault) }
+    ensures failed { OnFailed result ⊥ }
+{
+    let FileLines {
+        header,
+        header_line,
+        rows,
+    } = file;
+    let Some(arcs) = rows.arcs.into_full() else {
+        return Err(GraphFault::Refused {
+            line: header_line,
+            kind: Kind::WrongCount,
+        });
+    };
+    match edges_of(alloc, header.n, arcs) {
+        Ok(edges) => Ok(EdgeList::new(header.n, edges)),
+        Err(fault) => Err(refusal(fault, &rows.numbers)),
+    }
+}
+
+/// The refusal of arcs that aren't paired. It tells the line of their vertex, by the numbers of all lines.
+fn refusal(fault: PairFault, numbers: &[u64]) -> GraphFault
+    requires { LeavesWithin (length numbers.now) fault }
+    ensures { result ≡ told_at numbers.now fault }
+{
+    match fault {
+        PairFault::NotPaired { vertex, kind } => GraphFault::Refused {
+            line: numbers[vertex as usize - 1],
+            kind,
+        },
+        PairFault::OutOfMemory => GraphFault::OutOfMemory,
+    }
 }

@@ -1,13 +1,18 @@
 //! What the definitions of this crate's `specs/` say of small texts, and what follows from them in
 //! general. No call does anything: each is proved to meet the laws that its clauses state.
+#![tactic(auto, unfolding(crate::specs::Fault::fault_of, crate::specs::Fault::content_fault, crate::specs::Fault::header_fault, crate::specs::Fault::body_fault, crate::specs::Fault::vertex_fault, crate::specs::Fault::pairs_fault, crate::specs::File::header_of, crate::specs::File::line_arcs, crate::specs::Content::content_of, pg_text::specs::Ahead::lines_within, pg_text::specs::Text::lines, pg_text::specs::Text::words, pg_text::specs::Text::number, pg_text::specs::Text::numbers, pg_text::specs::Text::decimal_value))]
 
-ghost use Rattle.std.specs.Prelude.{◌≡◌, Some, None, [], ◌∷◌, true, false, codes, length};
-ghost use Rattle.pg_base.specs.Graph.{Graph};
-ghost use Rattle.pg_metis.specs.Text.{lines, words, is_comment, number, numbers};
-ghost use Rattle.pg_metis.specs.File.{FileOf, IsPlain, content_lines, header_of};
-ghost use Rattle.pg_metis.specs.FileLaws.{FilesAreOfOneGraph, OtherHeadersAreNotPlain, PlainFilesAreOfOneGraph};
-ghost use Rattle.pg_metis.specs.Answers.{HasOtherHeader, IsNotPlain};
-ghost use Rattle.pg_metis.specs.Examples.{parted_text, spaced_line, path, path_text, turned_path_text, heavy, heavy_text, pair, sized_text, unanswered_text, miscounted_text, commented_text, looped_text, outside_text, short_text, long_text, formatted_text, twice_weighed_text};
+ghost use Rattle.std.specs.Prelude.{◌≡◌, Some, None, [], ◌∷◌, true, false, codes, map};
+ghost use Rattle.pg_text.specs.Text.{words};
+ghost use Rattle.pg_metis.specs.declared.faults.Kind.TheVariants.{NoHeader, HeaderWords, BadNumber, OverLimit, BadFormat, ShortLine, OutOfRange, SelfEdge, Repeated, ZeroWeight, MissingLines, ExtraText, WrongCount, NoMirror, MirrorWeight, TooLong};
+ghost use Rattle.pg_metis.specs.Content.{content_of};
+ghost use Rattle.pg_metis.specs.File.{FileOf, content_lines, header_of};
+ghost use Rattle.pg_metis.specs.Fault.{content_fault, fault_of};
+ghost use Rattle.pg_metis.specs.FileLaws.{FaultlessTextsAreFiles, FaultyTextsAreNoFiles, FilesAreOfOneGraph, FilesHaveNoFault};
+ghost use Rattle.pg_metis.specs.Examples.{path, path_text, turned_path_text, commented_text, formatted_text, heavy, heavy_text, pair, sized_text, heavy_pair, uncounted_text, remarks_text, lone_word_text, lettered_text, vast_text, misformatted_text, unweighed_text, outside_text, looped_text, repeated_text, weightless_text, short_text, long_text, miscounted_text, unanswered_text, twice_weighed_text, repeated_then_letter_text, vast_then_letter_text, unweighed_and_miscounted_text, short_and_unanswered_text, cut_content, parts_text, idle_rank_text, far_rank_text, rankless_text, two_ranks_text, commented_parts_text};
+ghost use Rattle.pg_metis.specs.Parts.{PartsOf, parts_fault_of};
+ghost use Rattle.pg_metis.specs.PartsLaws.{FaultlessTextsGiveParts, PartsFilesAreOfOneList, PartsFilesHaveNoFault};
+ghost use Rattle.pg_metis.specs.declared.parts_faults.PartsKind.TheVariants.{BadNumber as BadPart, OutOfRange as PartOutOfRange, ExtraText as ExtraPart, MissingLines as MissingParts};
 
 use crate::MAX_FILE_BYTES;
 
@@ -16,51 +21,16 @@ pub fn limits()
     ensures { MAX_FILE_BYTES ≡ 536870912 }
 {}
 
-/// A line ends at a newline byte, and bytes after the last newline are a line.
-#[tactic(auto, unfolding(crate::specs::Text::lines))]
-pub fn text_lines()
-    ensures none { lines [] ≡ [] }
-    ensures one_empty { lines (10 ∷ []) ≡ [] ∷ [] }
-    ensures parted { lines parted_text ≡ codes "ab" ∷ [] ∷ codes "cd" ∷ [] }
-    ensures path { lines path_text ≡ codes "3 2" ∷ codes "2" ∷ codes "1 3" ∷ codes "2" ∷ [] }
-{}
-
-/// Words are divided by spaces, tabs and carriage returns.
-#[tactic(auto, unfolding(crate::specs::Text::words))]
-pub fn line_words()
-    ensures none { words [] ≡ [] }
-    ensures blanks { words (codes "  ") ≡ [] }
-    ensures one { words (codes "abc") ≡ codes "abc" ∷ [] }
-    ensures spaced { words spaced_line ≡ codes "12" ∷ codes "7" ∷ [] }
-{}
-
-/// A line is a comment where its first byte is a percent sign.
-#[tactic(auto, unfolding(crate::specs::Text::lines))]
-pub fn comments()
-    ensures percent { is_comment (codes "% 3 2") ≡ true }
-    ensures empty { is_comment [] ≡ false }
-    ensures later { is_comment (codes " % 3 2") ≡ false }
-    ensures passed_over { content_lines heavy_text ≡
+/// Comments are passed over, and are counted among the lines.
+pub fn contents()
+    ensures lines { content_lines heavy_text ≡
         codes "3 1 011 2" ∷ codes "7 0 2 9" ∷ codes "1 1 1 9" ∷ codes "4 4" ∷ [] }
-{}
-
-/// A number is one to ten decimal digits worth at most 4,294,967,295.
-#[tactic(auto, unfolding(crate::specs::Text::number, crate::specs::Text::numbers, crate::specs::Text::decimal_value))]
-pub fn word_numbers()
-    ensures zero { number (codes "0") ≡ Some 0 }
-    ensures zeros_first { number (codes "0000000002") ≡ Some 2 }
-    ensures greatest { number (codes "4294967295") ≡ Some 4294967295 }
-    ensures too_great { number (codes "4294967296") ≡ None }
-    ensures too_long { number (codes "00000000002") ≡ None }
-    ensures empty { number [] ≡ None }
-    ensures letter { number (codes "12x") ≡ None }
-    ensures sign { number (codes "-1") ≡ None }
-    ensures all { numbers (codes "7" ∷ codes "0" ∷ []) ≡ Some (7 ∷ 0 ∷ []) }
-    ensures not_all { numbers (codes "7" ∷ codes "x" ∷ []) ≡ None }
+    ensures numbers { map (λ line. line.number) (content_of heavy_text).lines ≡ 2 ∷ 3 ∷ 5 ∷ 6 ∷ [] }
+    ensures count { (content_of heavy_text).count ≡ 6 }
+    ensures whole { (content_of heavy_text).overlong ≡ false }
 {}
 
 /// A header has n and m, then the format's digits, then the number of weights for each vertex.
-#[tactic(auto, unfolding(crate::specs::File::header_of, crate::specs::Text::words, crate::specs::Text::number, crate::specs::Text::decimal_value))]
 pub fn headers()
     ensures two { header_of (words (codes "3 2")) ≡ Some (record {
       n = 3;
@@ -100,7 +70,6 @@ pub fn headers()
 {}
 
 /// What is no header.
-#[tactic(auto, unfolding(crate::specs::File::header_of, crate::specs::Text::words, crate::specs::Text::number, crate::specs::Text::decimal_value))]
 pub fn no_headers()
     ensures none { header_of [] ≡ None }
     ensures one { header_of (words (codes "3")) ≡ None }
@@ -112,44 +81,88 @@ pub fn no_headers()
     ensures ignored_letter { header_of (words (codes "3 2 001 x")) ≡ None }
 {}
 
-/// Files with weights and comments, and with sizes.
-pub fn files()
+/// Files of the path: neighbours stand in any order, comments anywhere, and a header may have its format.
+pub fn path_files()
+    ensures ascending { FileOf path_text path }
+    ensures turned { FileOf turned_path_text path }
+    ensures commented { FileOf commented_text path }
+    ensures formatted { FileOf formatted_text path }
+{}
+
+/// Files with weights of vertices and edges, and with sizes.
+pub fn weighed_files()
     ensures heavy { FileOf heavy_text heavy }
     ensures sized { FileOf sized_text pair }
+    ensures uncounted { FileOf uncounted_text heavy_pair }
 {}
 
-/// A Plain file names each neighbour in any order.
-pub fn plain_files()
-    ensures path { IsPlain path_text path }
-    ensures turned { IsPlain turned_path_text path }
+/// The faults of headers.
+pub fn header_faults()
+    ensures empty { fault_of [] ≡ Some (record { line = 1; kind = NoHeader }) }
+    ensures remarks { fault_of remarks_text ≡ Some (record { line = 3; kind = NoHeader }) }
+    ensures words { fault_of lone_word_text ≡ Some (record { line = 1; kind = HeaderWords }) }
+    ensures limit { fault_of vast_text ≡ Some (record { line = 1; kind = OverLimit }) }
+    ensures format { fault_of misformatted_text ≡ Some (record { line = 1; kind = BadFormat }) }
 {}
 
-/// Texts that are no Plain files.
-pub fn no_plain_files()
-    ensures empty { IsNotPlain [] }
-    ensures commented { IsNotPlain commented_text }
-    ensures short { IsNotPlain short_text }
-    ensures long { IsNotPlain long_text }
-    ensures formatted { IsNotPlain formatted_text }
-    ensures odd_header { HasOtherHeader formatted_text }
+/// The faults of the lines after the header.
+pub fn line_faults()
+    ensures number { fault_of lettered_text ≡ Some (record { line = 3; kind = BadNumber }) }
+    ensures short { fault_of unweighed_text ≡ Some (record { line = 3; kind = ShortLine }) }
+    ensures range { fault_of outside_text ≡ Some (record { line = 2; kind = OutOfRange }) }
+    ensures self_edge { fault_of looped_text ≡ Some (record { line = 2; kind = SelfEdge }) }
+    ensures repeated { fault_of repeated_text ≡ Some (record { line = 2; kind = Repeated }) }
+    ensures weight { fault_of weightless_text ≡ Some (record { line = 2; kind = ZeroWeight }) }
+    ensures missing { fault_of short_text ≡ Some (record { line = 4; kind = MissingLines }) }
+    ensures extra { fault_of long_text ≡ Some (record { line = 5; kind = ExtraText }) }
+    ensures too_long { content_fault cut_content ≡ Some (record { line = 2; kind = TooLong }) }
 {}
 
-/// Lines of numbers that are no graph's.
-pub fn no_rows()
-    ensures unanswered { IsNotPlain unanswered_text }
-    ensures miscounted { IsNotPlain miscounted_text }
-    ensures looped { IsNotPlain looped_text }
-    ensures outside { IsNotPlain outside_text }
+/// The faults that the lines of the vertices have only together.
+pub fn pair_faults()
+    ensures count { fault_of miscounted_text ≡ Some (record { line = 1; kind = WrongCount }) }
+    ensures mirror { fault_of unanswered_text ≡ Some (record { line = 3; kind = NoMirror }) }
+    ensures weight { fault_of twice_weighed_text ≡ Some (record { line = 2; kind = MirrorWeight }) }
 {}
 
-/// Two weights for one edge make a text no graph's file.
-pub fn no_files()
-    ensures twice_weighed { (g : Graph) → FileOf twice_weighed_text g → ⊥ }
+/// Which fault is the first: words go in order, lines before what they lack, and this before their arcs.
+pub fn first_faults()
+    ensures words { fault_of repeated_then_letter_text ≡ Some (record { line = 2; kind = Repeated }) }
+    ensures header_words { fault_of vast_then_letter_text ≡ Some (record { line = 1; kind = OverLimit }) }
+    ensures lines { fault_of unweighed_and_miscounted_text ≡ Some (record { line = 2; kind = ShortLine }) }
+    ensures end { fault_of short_and_unanswered_text ≡ Some (record { line = 3; kind = MissingLines }) }
 {}
 
-/// A text is a file of at most one graph, and of none by its header alone.
+/// A text is a file of one graph or has a fault, and never both.
 pub fn file_laws()
-    ensures files { FilesAreOfOneGraph }
-    ensures plain_files { PlainFilesAreOfOneGraph }
-    ensures odd_headers { OtherHeadersAreNotPlain }
+    ensures one_graph { FilesAreOfOneGraph }
+    ensures no_fault { FilesHaveNoFault }
+    ensures faultless { FaultlessTextsAreFiles }
+    ensures faulty { FaultyTextsAreNoFiles }
+{}
+
+/// Partition files, with comments and without, and one of no vertex.
+pub fn parts_files()
+    ensures two { PartsOf parts_text 2 2 (0 ∷ 1 ∷ []) }
+    ensures idle { PartsOf idle_rank_text 4 4 (0 ∷ 1 ∷ 3 ∷ 0 ∷ []) }
+    ensures commented { PartsOf commented_parts_text 2 2 (1 ∷ 0 ∷ []) }
+    ensures no_vertex { PartsOf [] 0 2 [] }
+{}
+
+/// The faults of partition files.
+#[tactic(auto, unfolding(crate::specs::Parts::parts_fault_of, crate::specs::Parts::parts_content_fault, crate::specs::Content::content_of, pg_text::specs::Ahead::lines_within, pg_text::specs::Text::lines, pg_text::specs::Text::words, pg_text::specs::Text::decimal_value))]
+pub fn part_faults()
+    ensures range { parts_fault_of 4 4 far_rank_text ≡ Some (record { line = 3; kind = PartOutOfRange }) }
+    ensures no_word { parts_fault_of 4 4 rankless_text ≡ Some (record { line = 2; kind = BadPart }) }
+    ensures second_word { parts_fault_of 4 4 two_ranks_text ≡ Some (record { line = 1; kind = ExtraPart }) }
+    ensures missing { parts_fault_of 3 2 parts_text ≡ Some (record { line = 3; kind = MissingParts }) }
+    ensures extra { parts_fault_of 1 2 parts_text ≡ Some (record { line = 2; kind = ExtraPart }) }
+    ensures no_vertex { parts_fault_of 0 2 parts_text ≡ Some (record { line = 1; kind = ExtraPart }) }
+{}
+
+/// A text gives one list of ranks or has a fault, and never both.
+pub fn parts_laws()
+    ensures one_list { PartsFilesAreOfOneList }
+    ensures no_fault { PartsFilesHaveNoFault }
+    ensures faultless { FaultlessTextsGiveParts }
 {}

@@ -1,19 +1,31 @@
-//! Graph files of METIS: which texts are one, the graph that such a text is of, and the fault of each
-//! other text. Source: METIS 5.1 manual, section 4.1.1, in the profile that docs/FORMAT.md gives.
+//! Graph files and partition files of METIS: which texts are one, the graph or the list of ranks that such a
+//! text is of, and the fault of each other text. Source: METIS 5.1 manual, sections 4.1.1 and 4.2.1, in the
+//! profile that docs/FORMAT.md gives.
 #![tactic(auto)]
 
+mod arcs;
+mod content;
 mod faults;
 mod graph_files;
+mod headers;
 pub mod laws;
-mod lines;
-mod mirror;
+mod numbers;
+mod pairing;
+mod parts_faults;
+mod parts_files;
 mod reading;
-mod table;
-mod words;
+mod rows;
+mod sorting;
 
 pub use faults::{GraphFault, Kind};
 pub use graph_files::read_graph;
-pub use words::number;
+pub use parts_faults::{PartsFault, PartsKind};
+pub use parts_files::read_parts;
 
 /// The greatest length of a file in bytes.
 pub const MAX_FILE_BYTES: u64 = 536_870_912;
+
+#[cfg(test)]
+mod parts_tests;
+#[cfg(test)]
+mod tests;

@@ -1,151 +1,143 @@
-//! The numbers of a graph file: the header's two and those of each vertex, line by line.
-ghost use Rattle.std.specs.Prelude.{◌≡◌, ◌≢◌, ◌+◌, ◌≤◌, [], ◌∷◌, Some, None, IsTrue, IfOk, OnOk, IfSome, List, length};
-ghost use Rattle.pg_base.specs.declared.TheConstants.{MAX_EDGES, MAX_VERTICES};
+//! A graph file line by line: its header, the lines of its vertices, and what follows them.
+
+ghost use Rattle.std.specs.Prelude.{◌≡◌, ◌<◌, ◌≤◌, [], Some, None, IsTrue, IfOk, OnOk, IfSome, length, All};
 ghost use Rattle.pg_outside.specs.Faults.{Rose};
-ghost use Rattle.pg_metis.specs.Text.{words, numbers};
-ghost use Rattle.pg_metis.specs.Rows.{Table, table_of, AreRows, HoldsTable};
-ghost use Rattle.pg_metis.specs.Answers.{OnRefused, OnFailed, IsRefusedAs, HasOtherHeader};
-ghost use Rattle.pg_metis.specs.Taking.{ahead, Told};
-ghost use Rattle.pg_metis.specs.Steps.{HeadsNoTable, HasNoTable, HasNoRows, HasNoRow, ReadsHeader, ReadsRow, ReadsRows, ReadsEnd, ReadsBody};
+ghost use Rattle.pg_text.specs.Coming.{Told};
+ghost use Rattle.pg_metis.specs.Ahead.{content_ahead};
+ghost use Rattle.pg_metis.specs.Answers.{OnFailed, OnRefused};
+ghost use Rattle.pg_metis.specs.Fault.{body_fault, content_fault, fault_of};
+ghost use Rattle.pg_metis.specs.Headers.{header_in};
+ghost use Rattle.pg_metis.specs.Reading.{TakesHeader, TakesRow, AreRowsOf, ReadsRows, blank_fault, ReadsBody, ReadsFile};
 
-use crate::lines::LineReader;
-use crate::table::NeighbourTable;
-use crate::words::{count_words, push_numbers};
-use crate::{GraphFault, Kind};
-use pg_base::{MAX_EDGES, MAX_VERTICES};
+use crate::arcs::NamedArcs;
+use crate::content::{has_word, next_content};
+use crate::headers::Header;
+use crate::rows::take_row;
+use crate::{GraphFault, Kind, MAX_FILE_BYTES};
 use pg_outside::Inputs;
-use std::alloc::{AllocError, Global};
+use pg_text::LineReader;
+use std::alloc::Global;
 
-/// What the header tells.
-#[derive(Clone, Copy)]
-struct Header {
-    n: u32,
-    m: u32,
-    ghost few_vertices: { n ≤ MAX_VERTICES },
-    ghost few_edges: { m ≤ MAX_EDGES },
+/// What the lines of the vertices told so far.
+#[derive(Drop)]
+pub(crate) struct Rows {
+    /// For each vertex the last vertex whose line named it, or 0.
+    stamps: Vec<u32>,
+    /// The number of each vertex's line.
+    pub numbers: Vec<u64>,
+    pub arcs: NamedArcs,
 }
 
-/// The two numbers of the header, which is the line of this number.
-fn header_of(alloc: Global, line: &[u8], line_number: u64) -> Result<Header, GraphFault>
-    ensures ok { IfOk result (λ header. numbers (words line.now) ≡ Some (header.n ∷ header.m ∷ [])) }
-    ensures refused { OnRefused result (HeadsNoTable line.now) }
-    ensures odd { length (words line.now) ≢ 2 → IsRefusedAs result line_number Kind.HeaderWords }
-    ensures failed { OnFailed result ⊥ }
-{
-    if count_words(line) != 2 {
-        return Err(GraphFault::Refused {
-            line: line_number,
-            kind: Kind::HeaderWords,
-        });
-    }
-    let mut numbers = Vec::with_capacity(alloc, 2)?;
-    push_numbers(line, line_number, &mut numbers)?;
-    let n = numbers[0];
-    let m = numbers[1];
-    if n > MAX_VERTICES || m > MAX_EDGES {
-        return Err(GraphFault::Refused {
-            line: line_number,
-            kind: Kind::OverLimit,
-        });
-    }
-    Ok(Header { n, m })
+/// What the lines of a file told, before they are held against one another.
+#[derive(Drop)]
+pub(crate) struct FileLines {
+    pub header: Header,
+    /// The number of the header's line.
+    pub header_line: u64,
+    pub rows: Rows,
 }
 
-/// Takes the first line, which is the header.
-fn read_header<I: Inputs>(
-    alloc: Global,
-    reader: &mut LineReader,
-    inputs: &mut I,
-) -> Result<Header, GraphFault>
+/// Takes the header.
+fn read_header<I: Inputs>(reader: &mut LineReader, inputs: &mut I) -> Result<Header, GraphFault>
     requires begun { IsTrue (I.begun inputs.old) }
-    requires lines { reader.old.lines ≡ 0 }
-    requires taken { reader.old.taken ≡ 0 }
     ensures later { I.faults inputs.old ≤ I.faults inputs.new }
     ensures begun { I.begun inputs.new ≡ I.begun inputs.old }
     ensures files { I.files inputs.new ≡ I.files inputs.old }
-    ensures ok { IfOk result (λ header. Told (ahead reader.old (I.left inputs.old)) (ahead reader.new (I.left inputs.new)) (λ text rest. ReadsHeader header.n header.m reader.old.taken text reader.new.taken rest)) }
-    ensures refused { OnRefused result (IfSome (ahead reader.old (I.left inputs.old)) (HasNoTable reader.old.taken)) }
-    ensures odd { IfSome (ahead reader.old (I.left inputs.old)) (λ text. HasOtherHeader text → IsRefusedAs result 1 Kind.HeaderWords) }
+    ensures ok { IfOk result (λ header. Told (content_ahead reader.old (I.left inputs.old)) (content_ahead reader.new (I.left inputs.new)) (TakesHeader (header_in header) reader.new.lines)) }
+    ensures refused { OnRefused result (λ fault. IfSome (content_ahead reader.old (I.left inputs.old)) (λ was. content_fault was ≡ Some fault)) }
     ensures failed { OnFailed result (Rose (I.faults inputs.old) (I.faults inputs.new)) }
 {
-    if !reader.next(inputs)? {
-        let line = reader.line_number() + 1;
+    if !next_content(reader, inputs)? {
         return Err(GraphFault::Refused {
-            line,
+            line: reader.line_number() + 1,
             kind: Kind::NoHeader,
         });
     }
-    header_of(alloc, reader.line(), reader.line_number())
-}
-
-/// Rows of numbers, end to end.
-#[derive(Drop)]
-struct Rows {
-    starts: Vec<usize>,
-    targets: Vec<u32>,
-}
-
-impl Rows {
-    /// No row, with memory for what the header tells.
-    fn new(alloc: Global, header: Header) -> Result<Rows, GraphFault>
-        ensures starts { IfOk result (λ rows. rows.starts.items ≡ 0 ∷ []) }
-        ensures targets { IfOk result (λ rows. rows.targets.items ≡ []) }
-        ensures refused { OnRefused result ⊥ }
-        ensures failed { OnFailed result ⊥ }
-    {
-        let mut starts = Vec::with_capacity(alloc, header.n as usize + 1)?;
-        let targets = Vec::with_capacity(alloc, 2 * header.m as usize)?;
-        starts.push(0)?;
-        Ok(Rows { starts, targets })
+    match Header::of_line(reader.line()) {
+        Ok(header) => Ok(header),
+        Err(kind) => Err(GraphFault::Refused {
+            line: reader.line_number(),
+            kind,
+        }),
     }
 }
 
-/// Takes the line of the next vertex and appends its numbers to `targets`.
+/// Takes the line of `vertex`.
 fn read_row<I: Inputs>(
     reader: &mut LineReader,
     inputs: &mut I,
-    targets: &mut Vec<u32>,
-) -> Result<(), GraphFault>
-    requires begun { IsTrue (I.begun inputs.old) }
-    ensures later { I.faults inputs.old ≤ I.faults inputs.new }
-    ensures begun { I.begun inputs.new ≡ I.begun inputs.old }
-    ensures files { I.files inputs.new ≡ I.files inputs.old }
-    ensures ok { OnOk result (Told (ahead reader.old (I.left inputs.old)) (ahead reader.new (I.left inputs.new)) (λ text rest. ReadsRow targets.old.items targets.new.items reader.old.taken text reader.new.taken rest)) }
-    ensures longer { OnOk result (length targets.old.items ≤ length targets.new.items) }
-    ensures refused { OnRefused result (IfSome (ahead reader.old (I.left inputs.old)) (HasNoRow reader.old.taken)) }
-    ensures failed { OnFailed result (Rose (I.faults inputs.old) (I.faults inputs.new)) }
-{
-    if !reader.next(inputs)? {
-        let line = reader.line_number() + 1;
-        return Err(GraphFault::Refused {
-            line,
-            kind: Kind::MissingLines,
-        });
-    }
-    push_numbers(reader.line(), reader.line_number(), targets)
-}
-
-/// Takes the lines of all `n` vertices.
-fn read_rows<I: Inputs>(
-    reader: &mut LineReader,
-    inputs: &mut I,
-    n: u32,
+    header: Header,
+    vertex: u32,
     rows: &mut Rows,
 ) -> Result<(), GraphFault>
     requires begun { IsTrue (I.begun inputs.old) }
-    requires starts { rows.old.starts.items ≡ 0 ∷ [] }
-    requires targets { rows.old.targets.items ≡ [] }
+    requires first { 1 ≤ vertex }
+    requires last { vertex ≤ header.n }
+    requires size { length rows.old.stamps.items ≡ header.n }
+    requires stamps { All (λ stamp. stamp < vertex) rows.old.stamps.items }
     ensures later { I.faults inputs.old ≤ I.faults inputs.new }
     ensures begun { I.begun inputs.new ≡ I.begun inputs.old }
     ensures files { I.files inputs.new ≡ I.files inputs.old }
-    ensures rows { OnOk result (AreRows n rows.new.starts.items rows.new.targets.items) }
-    ensures ok { OnOk result (Told (ahead reader.old (I.left inputs.old)) (ahead reader.new (I.left inputs.new)) (λ text rest. ReadsRows n n rows.new.starts.items rows.new.targets.items reader.old.taken text reader.new.taken rest)) }
-    ensures refused { OnRefused result (IfSome (ahead reader.old (I.left inputs.old)) (HasNoRows n reader.old.taken)) }
+    ensures ok { OnOk result (TakesRow (header_in header) vertex rows.old rows.new (content_ahead reader.old (I.left inputs.old)) (content_ahead reader.new (I.left inputs.new))) }
+    ensures refused { OnRefused result (λ fault. IfSome (content_ahead reader.old (I.left inputs.old)) (λ was. body_fault (header_in header) vertex was ≡ Some fault)) }
     ensures failed { OnFailed result (Rose (I.faults inputs.old) (I.faults inputs.new)) }
 {
-    for _vertex in 0..n {
-        read_row(reader, inputs, &mut rows.targets)?;
-        rows.starts.push(rows.targets.len())?;
+    if !next_content(reader, inputs)? {
+        return Err(GraphFault::Refused {
+            line: reader.line_number() + 1,
+            kind: Kind::MissingLines,
+        });
+    }
+    let line = reader.line_number();
+    if let Err(kind) = take_row(
+        header,
+        vertex,
+        reader.line(),
+        &mut rows.stamps,
+        &mut rows.arcs,
+    ) {
+        return Err(GraphFault::Refused { line, kind });
+    }
+    rows.numbers.push(line)?;
+    Ok(())
+}
+
+impl Rows {
+    /// What no line told yet, with memory for all lines.
+    fn new(alloc: Global, header: Header) -> Result<Rows, GraphFault>
+        ensures ok { IfOk result (λ rows. AreRowsOf (header_in header) 0 rows []) }
+        ensures refused { OnRefused result (λ _. ⊥) }
+        ensures failed { OnFailed result ⊥ }
+    {
+        let stamps = vec![in alloc; 0; header.n as usize]?;
+        let numbers = Vec::with_capacity(alloc, header.n as usize)?;
+        let arcs = NamedArcs::new(alloc, 2 * header.m as usize)?;
+        Ok(Rows {
+            stamps,
+            numbers,
+            arcs,
+        })
+    }
+}
+
+/// Takes the lines of all vertices.
+fn read_rows<I: Inputs>(
+    reader: &mut LineReader,
+    inputs: &mut I,
+    header: Header,
+    rows: &mut Rows,
+) -> Result<(), GraphFault>
+    requires begun { IsTrue (I.begun inputs.old) }
+    requires none { AreRowsOf (header_in header) 0 rows.old [] }
+    ensures later { I.faults inputs.old ≤ I.faults inputs.new }
+    ensures begun { I.begun inputs.new ≡ I.begun inputs.old }
+    ensures files { I.files inputs.new ≡ I.files inputs.old }
+    ensures ok { OnOk result (ReadsRows (header_in header) header.n rows.new (content_ahead reader.old (I.left inputs.old)) (content_ahead reader.new (I.left inputs.new))) }
+    ensures refused { OnRefused result (λ fault. IfSome (content_ahead reader.old (I.left inputs.old)) (λ was. body_fault (header_in header) 1 was ≡ Some fault)) }
+    ensures failed { OnFailed result (Rose (I.faults inputs.old) (I.faults inputs.new)) }
+{
+    for place in 0..header.n {
+        read_row(reader, inputs, header, place + 1, rows)?;
     }
     Ok(())
 }
@@ -156,15 +148,15 @@ fn read_end<I: Inputs>(reader: &mut LineReader, inputs: &mut I) -> Result<(), Gr
     ensures later { I.faults inputs.old ≤ I.faults inputs.new }
     ensures begun { I.begun inputs.new ≡ I.begun inputs.old }
     ensures files { I.files inputs.new ≡ I.files inputs.old }
-    ensures ok { OnOk result (Told (ahead reader.old (I.left inputs.old)) (ahead reader.new (I.left inputs.new)) (ReadsEnd reader.old.taken)) }
-    ensures refused { OnRefused result (IfSome (ahead reader.old (I.left inputs.old)) (HasNoRows 0 reader.old.taken)) }
+    ensures ok { OnOk result (IfSome (content_ahead reader.old (I.left inputs.old)) (λ was. blank_fault was ≡ None)) }
+    ensures end { OnOk result (IfSome (content_ahead reader.old (I.left inputs.old)) (λ _. I.left inputs.new ≡ Some [])) }
+    ensures refused { OnRefused result (λ fault. IfSome (content_ahead reader.old (I.left inputs.old)) (λ was. blank_fault was ≡ Some fault)) }
     ensures failed { OnFailed result (Rose (I.faults inputs.old) (I.faults inputs.new)) }
 {
-    while reader.next(inputs)? {
-        if count_words(reader.line()) > 0 {
-            let line = reader.line_number();
+    while next_content(reader, inputs)? {
+        if has_word(reader.line()) {
             return Err(GraphFault::Refused {
-                line,
+                line: reader.line_number(),
                 kind: Kind::ExtraText,
             });
         }
@@ -178,45 +170,39 @@ fn read_body<I: Inputs>(
     reader: &mut LineReader,
     inputs: &mut I,
     header: Header,
-) -> Result<NeighbourTable, GraphFault>
+) -> Result<Rows, GraphFault>
     requires begun { IsTrue (I.begun inputs.old) }
     ensures later { I.faults inputs.old ≤ I.faults inputs.new }
     ensures begun { I.begun inputs.new ≡ I.begun inputs.old }
     ensures files { I.files inputs.new ≡ I.files inputs.old }
-    ensures counts { IfOk result (λ t. (t.n ≡ header.n) × (t.m ≡ header.m)) }
-    ensures ok { IfOk result (λ t. Told (ahead reader.old (I.left inputs.old)) (ahead reader.new (I.left inputs.new)) (ReadsBody header.n t.starts.items t.targets.items reader.old.taken)) }
-    ensures refused { OnRefused result (IfSome (ahead reader.old (I.left inputs.old)) (HasNoRows header.n reader.old.taken)) }
+    ensures ok { IfOk result (λ rows. ReadsBody (header_in header) rows (content_ahead reader.old (I.left inputs.old))) }
+    ensures end { OnOk result (IfSome (content_ahead reader.old (I.left inputs.old)) (λ _. I.left inputs.new ≡ Some [])) }
+    ensures refused { OnRefused result (λ fault. IfSome (content_ahead reader.old (I.left inputs.old)) (λ was. body_fault (header_in header) 1 was ≡ Some fault)) }
     ensures failed { OnFailed result (Rose (I.faults inputs.old) (I.faults inputs.new)) }
 {
     let mut rows = Rows::new(alloc, header)?;
-    read_rows(reader, inputs, header.n, &mut rows)?;
+    read_rows(reader, inputs, header, &mut rows)?;
     read_end(reader, inputs)?;
-    let Rows { starts, targets } = rows;
-    Ok(NeighbourTable {
-        n: header.n,
-        m: header.m,
-        starts,
-        targets,
-    })
+    Ok(rows)
 }
 
-/// Reads the name that was begun last to its end, as the numbers of a graph file. The refusal of another
-/// text tells its first line that shows it.
-pub(crate) fn read_table<I: Inputs>(
-    alloc: Global,
-    inputs: &mut I,
-) -> Result<NeighbourTable, GraphFault>
-    requires { IsTrue (I.begun inputs.old) }
+/// Reads the name that was begun last to its end. The first fault of a line is told where there is one.
+pub(crate) fn read_file<I: Inputs>(alloc: Global, inputs: &mut I) -> Result<FileLines, GraphFault>
+    requires begun { IsTrue (I.begun inputs.old) }
     ensures later { I.faults inputs.old ≤ I.faults inputs.new }
     ensures files { I.files inputs.new ≡ I.files inputs.old }
-    ensures ok { IfOk result (λ t. IfSome (I.left inputs.old) (λ text.
-        (table : Table) × (table_of text ≡ Some table) × HoldsTable table t.n t.m t.starts.items t.targets.items)) }
-    ensures end { OnOk result (IfSome (I.left inputs.old) (λ text. I.left inputs.new ≡ Some [])) }
-    ensures refused { OnRefused result (IfSome (I.left inputs.old) (λ text. table_of text ≡ None)) }
-    ensures header { IfSome (I.left inputs.old) (λ text. HasOtherHeader text → IsRefusedAs result 1 Kind.HeaderWords) }
+    ensures ok { IfOk result (λ file. ReadsFile file (I.left inputs.old)) }
+    ensures end { OnOk result (IfSome (I.left inputs.old) (λ _. I.left inputs.new ≡ Some [])) }
+    ensures refused { OnRefused result (λ fault. IfSome (I.left inputs.old) (λ text. fault_of text ≡ Some fault)) }
     ensures failed { OnFailed result (Rose (I.faults inputs.old) (I.faults inputs.new)) }
 {
-    let mut reader = LineReader::new(alloc)?;
-    let header = read_header(alloc, &mut reader, inputs)?;
-    read_body(alloc, &mut reader, inputs, header)
+    let mut reader = LineReader::new(alloc, MAX_FILE_BYTES)?;
+    let header = read_header(&mut reader, inputs)?;
+    let header_line = reader.line_number();
+    let rows = read_body(alloc, &mut reader, inputs, header)?;
+    Ok(FileLines {
+        header,
+        header_line,
+        rows,
+    })
 }

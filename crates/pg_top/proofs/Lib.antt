@@ -5,4 +5,3 @@ pub mod Rows
 pub mod SearchTexts
 pub mod Steps
 pub mod Walks
-pub mod Writing

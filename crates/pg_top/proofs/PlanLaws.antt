@@ -5,7 +5,7 @@ use Rattle.std.proofs.lemmas.Bool.{cases_lt, cond-true, cond-false}
 use Rattle.std.proofs.lemmas.List.{length-map}
 use Rattle.std.specs.declared.alloc.Global.{Global}
 use Rattle.std.specs.Option.{option_map}
-use Rattle.pg_metis.specs.Text.{number}
+use Rattle.pg_text.specs.Text.{number}
 use Rattle.pg_top.specs.Plan.{Meaning, names_search, plan_of, search_of, texts}
 use Rattle.pg_top.specs.declared.plans.Algorithm.TheVariants.{Bfs}
 

@@ -1,6 +1,5 @@
 pub mod Distances
 pub mod Examples
-pub mod Fault
 pub mod Plan
 pub mod Rows
 pub mod Run

@@ -3,7 +3,7 @@ use Rattle.std.specs.Prelude.{ℕ, Bool, false, not, ◌&&◌, ◌==◌, if◌th
 use Rattle.std.specs.Option.{option_map}
 use Rattle.std.specs.Str.{bytes_eq}
 use Rattle.std.specs.declared.alloc.Global.{Global}
-use Rattle.pg_metis.specs.Text.{number}
+use Rattle.pg_text.specs.Text.{number}
 use Rattle.pg_top.specs.declared.plans.Algorithm.{Algorithm}
 use Rattle.pg_top.specs.declared.plans.Algorithm.TheVariants.{Bfs}
 use Rattle.pg_top.specs.declared.plans.Plan.{Plan}

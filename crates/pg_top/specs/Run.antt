@@ -7,12 +7,10 @@ use Rattle.pg_base.specs.declared.outcomes.Status.TheVariants.{NoMemory}
 use Rattle.pg_outside.specs.Faults.{Rose}
 use Rattle.pg_outside.specs.Files.{NamedBytes, contents_of, IsMissing}
 use Rattle.pg_outside.specs.Written.{AppendsFront}
-use Rattle.pg_metis.specs.File.{IsPlain}
-use Rattle.pg_metis.specs.Answers.{IsNotPlain, HasOtherHeader}
-use Rattle.pg_metis.specs.declared.faults.Kind.TheVariants.{HeaderWords}
-use Rattle.pg_metis.specs.declared.faults.Kind.{Kind}
-use Rattle.pg_top.specs.declared.faults.Fault.{Fault}
-use Rattle.pg_top.specs.declared.faults.Fault.TheVariants.{Words, Graph as GraphFault, Source, Read, Write, Memory}
+use Rattle.pg_metis.specs.File.{FileOf}
+use Rattle.pg_metis.specs.Fault.{fault_of}
+use Rattle.pg_print.specs.declared.faults.Fault.{Fault}
+use Rattle.pg_print.specs.declared.faults.Fault.TheVariants.{Words, Graph as GraphFault, Source, Read, Write, Memory}
 use Rattle.pg_top.specs.Plan.{Meaning, plan_of}
 use Rattle.pg_top.specs.Text.{IsTextOf}
 
@@ -21,9 +19,9 @@ abbrev pub FileHolds : List ℕ → Option (List NamedBytes) → (List ℕ → T
 FileHolds name None P = ⊤
 FileHolds name (Some files) P = (text : List ℕ) × (contents_of name files ≡ Some text) × P text
 
--- The text is a Plain file of a graph of which P holds.
-abbrev pub IsPlainOf : (Graph → Type 0) → List ℕ → Type 0
-IsPlainOf P text = (g : Graph) × IsPlain text g × P g
+-- The text is a file of a graph of which P holds.
+abbrev pub IsFileOf : (Graph → Type 0) → List ℕ → Type 0
+IsFileOf P text = (g : Graph) × FileOf text g × P g
 
 -- The words have a plan, of which P holds.
 abbrev pub HasPlan : List (List ℕ) → (Meaning → Type 0) → Type 0
@@ -32,11 +30,6 @@ HasPlan words P = (plan : Meaning) × (plan_of words ≡ Some plan) × P plan
 -- A vertex number that is none of the graph's.
 abbrev pub IsOutside : Graph → ℕ → Type 0
 IsOutside g v = (v ≡ 0) ⊎ (g.n < v)
-
--- The text is no Plain file. Where its first line has other than two words, the fault is this one.
-pub record IsFaultOf (line : ℕ) (kind : Kind) (text : List ℕ) : Type 0 where
-  pub malformed : IsNotPlain text
-  pub header : HasOtherHeader text → (line ≡ 1) × (kind ≡ HeaderWords)
 
 -- The counts of faults of what is read and of what is written to, and the text written, before and after.
 pub record Traces : Type 0 where
@@ -49,18 +42,18 @@ pub record Traces : Type 0 where
 
 -- P holds of a text that the plan means for the graph of its file.
 abbrev pub HasText : Meaning → Option (List NamedBytes) → (List ℕ → Type 0) → Type 0
-HasText plan files P = FileHolds plan.file files (IsPlainOf (λ g. (text : List ℕ) × IsTextOf plan g text × P text))
+HasText plan files P = FileHolds plan.file files (IsFileOf (λ g. (text : List ℕ) × IsTextOf plan g text × P text))
 
 -- Why the file of this name gave no graph.
 abbrev pub LoadFails : List ℕ → Option (List NamedBytes) → ℕ → ℕ → Fault → Type 0
-LoadFails name files before after (GraphFault line kind) = FileHolds name files (IsFaultOf line kind)
+LoadFails name files before after (GraphFault line kind) = FileHolds name files (λ text. fault_of text ≡ Some (record { line = line; kind = kind }))
 LoadFails name files before after Read = Rose before after ⊎ IsMissing name files
 LoadFails name files before after Memory = ⊤
 LoadFails name files before after _ = ⊥
 
 -- Why there were no distances to print.
 abbrev pub SearchFails : Meaning → Option (List NamedBytes) → ℕ → ℕ → Fault → Type 0
-SearchFails plan files before after (Source source) = (source ≡ plan.source) × FileHolds plan.file files (IsPlainOf (λ g. IsOutside g source))
+SearchFails plan files before after (Source source) = (source ≡ plan.source) × FileHolds plan.file files (IsFileOf (λ g. IsOutside g source))
 SearchFails plan files before after fault = LoadFails plan.file files before after fault
 
 -- The cause of a run's fault.

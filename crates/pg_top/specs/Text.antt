@@ -1,18 +1,10 @@
 -- What a run prints.
-use Rattle.std.specs.Prelude.{◌≡◌, ℕ, ◌≤◌, Option, Some, None, List, [], ◌∷◌, ◌++◌, decimal}
-use Rattle.std.specs.List.{flat_map}
+use Rattle.std.specs.Prelude.{◌≡◌, ℕ, ◌≤◌, Option, List}
 use Rattle.pg_base.specs.Graph.{Graph}
+use Rattle.pg_print.specs.Columns.{column_text}
 use Rattle.pg_top.specs.Distances.{AreLeastArcs}
 use Rattle.pg_top.specs.Plan.{Meaning}
 use Rattle.pg_top.specs.declared.plans.Algorithm.TheVariants.{Bfs}
-
--- A number in decimal, or a hyphen where there is none, and a newline.
-abbrev pub answer_line : Option ℕ → List ℕ
-answer_line None = 45 ∷ 10 ∷ []
-answer_line (Some n) = decimal n ++ 10 ∷ []
-
-abbrev pub column_text : List (Option ℕ) → List ℕ
-column_text column = flat_map answer_line column
 
 -- A line for each vertex, with the least number of arcs from the source, which is a vertex.
 pub record IsSearchText (g : Graph) (source : ℕ) (text : List ℕ) : Type 0 where

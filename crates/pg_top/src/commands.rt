@@ -3,25 +3,27 @@ ghost use Rattle.std.specs.Io.KnownBytes.{Appends};
 ghost use Rattle.pg_outside.specs.Faults.{Rose};
 ghost use Rattle.pg_outside.specs.Files.{IsMissing};
 ghost use Rattle.pg_outside.specs.Written.{AppendsFront};
-ghost use Rattle.pg_metis.specs.Answers.{IsNotPlain};
-ghost use Rattle.pg_metis.specs.File.{IsPlain};
-ghost use Rattle.pg_top.specs.Text.{IsSearchText, column_text};
+ghost use Rattle.pg_metis.specs.Fault.{Fault as FirstFault, fault_of};
+ghost use Rattle.pg_metis.specs.File.{FileOf};
+ghost use Rattle.pg_print.specs.Columns.{column_text};
+ghost use Rattle.pg_print.specs.FaultLines.{fault_line, status_of};
+ghost use Rattle.pg_top.specs.Text.{IsSearchText};
 ghost use Rattle.pg_base.specs.Graph.{Graph};
-ghost use Rattle.pg_top.specs.Fault.{fault_line, status_of};
 ghost use Rattle.pg_top.specs.Plan.{Meaning, meaning_of, plan_of, texts};
-ghost use Rattle.pg_top.specs.Run.{IsOutside, IsOrNoMemory, IsReadToEnd, LoadFails, FileHolds, IsPlainOf, HasPlan, HasText, PlanFails, Reports, RunFails, SearchFails, Tells};
+ghost use Rattle.pg_top.specs.Run.{IsOutside, IsOrNoMemory, IsReadToEnd, LoadFails, FileHolds, IsFileOf, HasPlan, HasText, PlanFails, Reports, RunFails, SearchFails, Tells};
 
-use crate::printing::{print_column, print_fault};
+use crate::columns::Distances;
 use crate::search::least_arcs;
-use crate::{Fault, Plan, PlanFault, plan};
+use crate::{Plan, PlanFault, plan};
 use pg_base::{EdgeList, Gate, Status};
 use pg_metis::{GraphFault, read_graph};
 use pg_outside::{Inputs, Sink};
+use pg_print::{Fault, print_column, print_fault};
 use std::alloc::Global;
 
 /// The graph of the file of this name.
 fn load<I: Inputs>(alloc: Global, inputs: &mut I, name: &str) -> Result<EdgeList, Fault>
-    ensures loaded { IfOk result (λ g. FileHolds name.now (I.files inputs.old) (λ text. IsPlain text g)) }
+    ensures loaded { IfOk result (λ g. FileHolds name.now (I.files inputs.old) (λ text. FileOf text g)) }
     ensures end { OnOk result (IsReadToEnd (I.files inputs.old) (I.left inputs.new)) }
     ensures fails { IfErr result (LoadFails name.now (I.files inputs.old) (I.faults inputs.old) (I.faults inputs.new)) }
 {
@@ -37,9 +39,9 @@ fn load<I: Inputs>(alloc: Global, inputs: &mut I, name: &str) -> Result<EdgeList
 }
 
 /// The least numbers of arcs from the plan's source, in the graph of the plan's file.
-fn find<I: Inputs>(alloc: Global, inputs: &mut I, plan: &Plan) -> Result<Vec<Option<u32>>, Fault>
+fn find<I: Inputs>(alloc: Global, inputs: &mut I, plan: &Plan) -> Result<Distances, Fault>
     ensures found { IfOk result (λ distances. FileHolds (string_bytes plan.now.file) (I.files inputs.old)
-        (IsPlainOf (λ g. IsSearchText g plan.now.source (column_text distances.items)))) }
+        (IsFileOf (λ g. IsSearchText g plan.now.source (column_text distances.arcs.items)))) }
     ensures end { OnOk result (IsReadToEnd (I.files inputs.old) (I.left inputs.new)) }
     ensures fails { IfErr result
         (SearchFails (meaning_of plan.now) (I.files inputs.old) (I.faults inputs.old) (I.faults inputs.new)) }
@@ -51,7 +53,7 @@ fn find<I: Inputs>(alloc: Global, inputs: &mut I, plan: &Plan) -> Result<Vec<Opt
         });
     }
     match least_arcs(alloc, &graph, plan.source) {
-        Ok(distances) => Ok(distances),
+        Ok(arcs) => Ok(Distances { arcs }),
         Err(_) => Err(Fault::Memory),
     }
 }
@@ -112,7 +114,7 @@ pub struct Answer {
 /// Runs the program: the words after its name, a source of files, standard output and standard error.
 ///
 /// With status `Ok`, `out` grew by exactly the text of the words' plan for the graph of which the plan's
-/// file is a Plain file: for each vertex from 1 to n a line with the least number of arcs of a walk from
+/// file is one: for each vertex from 1 to n a line with the least number of arcs of a walk from
 /// the source, or `-` where no walk leads there. With every other status one line that tells the fault was
 /// written to `errs`, whose own faults change nothing.
 ///
@@ -137,9 +139,9 @@ pub fn command<I: Inputs, S: Sink, E: Sink, G: Gate>(
     // Only where the cause stands.
     ensures bad_words { result.status ≡ Status.BadWords → plan_of (texts words.now) ≡ None }
     ensures bad_graph { result.status ≡ Status.BadGraph → HasPlan (texts words.now)
-        (λ plan. FileHolds plan.file (I.files inputs.old) IsNotPlain) }
+        (λ plan. FileHolds plan.file (I.files inputs.old) (λ text. (fault : FirstFault) × (fault_of text ≡ Some fault))) }
     ensures bad_source { result.status ≡ Status.BadSource → HasPlan (texts words.now)
-        (λ plan. FileHolds plan.file (I.files inputs.old) (IsPlainOf (λ g. IsOutside g plan.source))) }
+        (λ plan. FileHolds plan.file (I.files inputs.old) (IsFileOf (λ g. IsOutside g plan.source))) }
     ensures read_fault { result.status ≡ Status.ReadFault → HasPlan (texts words.now)
         (λ plan. Rose (I.faults inputs.old) (I.faults inputs.new) ⊎ IsMissing plan.file (I.files inputs.old)) }
     ensures write_fault { result.status ≡ Status.WriteFault → HasPlan (texts words.now)
@@ -149,16 +151,16 @@ pub fn command<I: Inputs, S: Sink, E: Sink, G: Gate>(
 
     // And there, unless memory was wanting.
     ensures no_plan { plan_of (texts words.now) ≡ None → IsOrNoMemory Status.BadWords result.status }
-    ensures malformed { (plan : Meaning) (text : List ℕ) →
-        Tells (texts words.now) (I.files inputs.old) plan text → IsNotPlain text →
+    ensures malformed { (plan : Meaning) (text : List ℕ) (fault : FirstFault) →
+        Tells (texts words.now) (I.files inputs.old) plan text → fault_of text ≡ Some fault →
         (Rose (I.faults inputs.old) (I.faults inputs.new) → ⊥) →
         IsOrNoMemory Status.BadGraph result.status }
     ensures outside { (plan : Meaning) (text : List ℕ) (g : Graph) →
-        Tells (texts words.now) (I.files inputs.old) plan text → IsPlain text g → IsOutside g plan.source →
+        Tells (texts words.now) (I.files inputs.old) plan text → FileOf text g → IsOutside g plan.source →
         (Rose (I.faults inputs.old) (I.faults inputs.new) → ⊥) →
         IsOrNoMemory Status.BadSource result.status }
     ensures complete { (plan : Meaning) (text : List ℕ) (g : Graph) →
-        Tells (texts words.now) (I.files inputs.old) plan text → IsPlain text g →
+        Tells (texts words.now) (I.files inputs.old) plan text → FileOf text g →
         1 ≤ plan.source → plan.source ≤ g.n →
         (Rose (I.faults inputs.old) (I.faults inputs.new) → ⊥) →
         (Rose (S.faults out.old) (S.faults out.new) → ⊥) → IsOrNoMemory Status.Ok result.status }
@@ -183,7 +185,7 @@ pub fn command<I: Inputs, S: Sink, E: Sink, G: Gate>(
             work: Work::None,
         },
         Err(fault) => {
-            print_fault(errs, &fault);
+            let _ = print_fault(errs, &fault);
             Answer {
                 status: fault.status(),
                 work: Work::None,

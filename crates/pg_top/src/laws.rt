@@ -1,22 +1,17 @@
-//! What the definitions of this crate's `specs/` say of small command lines, graphs and faults, and what
+//! What the definitions of this crate's `specs/` say of small command lines and graphs, and what
 //! follows from them in general. No call does anything: each is proved to meet the laws that its clauses
 //! state.
 
 ghost use Rattle.std.specs.Prelude.{◌≡◌, Some, None, [], ◌∷◌, codes};
-ghost use Rattle.pg_metis.specs.Text.{words};
+ghost use Rattle.pg_text.specs.Text.{words};
 ghost use Rattle.pg_top.specs.Plan.{plan_of};
-ghost use Rattle.pg_top.specs.Text.{IsSearchText, answer_line, column_text};
+ghost use Rattle.pg_top.specs.Text.{IsSearchText};
 ghost use Rattle.pg_top.specs.TextLaws.{SearchTextIsOne};
-ghost use Rattle.pg_top.specs.Fault.{fault_line, status_of};
 ghost use Rattle.pg_metis.specs.Examples.{path};
 ghost use Rattle.pg_top.specs.Examples.{search_from, path_and_one};
 
-use crate::Fault;
-use pg_base::Status;
-use pg_metis::Kind;
-
 /// The command lines that have a plan. A source of 0 is refused only once the graph is known.
-#[tactic(auto, unfolding(crate::specs::Plan::plan_of, pg_metis::specs::Text::words, pg_metis::specs::Text::number, pg_metis::specs::Text::decimal_value))]
+#[tactic(auto, unfolding(crate::specs::Plan::plan_of, pg_text::specs::Text::words, pg_text::specs::Text::number, pg_text::specs::Text::decimal_value))]
 pub fn plans()
     ensures search { plan_of (words (codes "bfs B --source 1")) ≡ Some (search_from 1) }
     ensures source_zero { plan_of (words (codes "bfs B --source 0")) ≡ Some (search_from 0) }
@@ -24,7 +19,7 @@ pub fn plans()
 {}
 
 /// Command lines that have none.
-#[tactic(auto, unfolding(crate::specs::Plan::plan_of, pg_metis::specs::Text::words, pg_metis::specs::Text::number, pg_metis::specs::Text::decimal_value))]
+#[tactic(auto, unfolding(crate::specs::Plan::plan_of, pg_text::specs::Text::words, pg_text::specs::Text::number, pg_text::specs::Text::decimal_value))]
 pub fn no_plans()
     ensures no_words { plan_of [] ≡ None }
     ensures no_file { plan_of (words (codes "bfs")) ≡ None }
@@ -39,15 +34,6 @@ pub fn no_plans()
     ensures fifth_word { plan_of (words (codes "bfs B --source 1 1")) ≡ None }
 {}
 
-/// The line of an answer, and the lines of a column.
-pub fn answers()
-    ensures zero { answer_line (Some 0) ≡ codes "0\n" }
-    ensures twelve { answer_line (Some 12) ≡ codes "12\n" }
-    ensures none { answer_line None ≡ codes "-\n" }
-    ensures no_column { column_text [] ≡ [] }
-    ensures column { column_text (Some 0 ∷ None ∷ Some 12 ∷ []) ≡ codes "0\n-\n12\n" }
-{}
-
 /// What a search prints, and sources that are no vertices.
 pub fn search_texts()
     ensures path_from_1 { IsSearchText path 1 (codes "0\n1\n2\n") }
@@ -56,27 +42,6 @@ pub fn search_texts()
     ensures below { IsSearchText path 0 (codes "0\n1\n2\n") → ⊥ }
     ensures above { IsSearchText path 4 (codes "0\n1\n2\n") → ⊥ }
     ensures other { IsSearchText path 1 (codes "0\n1\n1\n") → ⊥ }
-{}
-
-/// The line that tells each fault.
-pub fn fault_lines()
-    ensures words { fault_line Fault.Words ≡ codes "bad words\n" }
-    ensures graph { fault_line (Fault.Graph 3 Kind.NoMirror) ≡ codes "line 3: NoMirror\n" }
-    ensures header { fault_line (Fault.Graph 1 Kind.HeaderWords) ≡ codes "line 1: HeaderWords\n" }
-    ensures source { fault_line (Fault.Source 0) ≡ codes "source 0: not in the graph\n" }
-    ensures read { fault_line Fault.Read ≡ codes "cannot read\n" }
-    ensures write { fault_line Fault.Write ≡ codes "cannot write\n" }
-    ensures memory { fault_line Fault.Memory ≡ codes "no memory\n" }
-{}
-
-/// The status that a run with each fault ends with.
-pub fn fault_statuses()
-    ensures words { status_of Fault.Words ≡ Status.BadWords }
-    ensures graph { status_of (Fault.Graph 3 Kind.NoMirror) ≡ Status.BadGraph }
-    ensures source { status_of (Fault.Source 0) ≡ Status.BadSource }
-    ensures read { status_of Fault.Read ≡ Status.ReadFault }
-    ensures write { status_of Fault.Write ≡ Status.WriteFault }
-    ensures memory { status_of Fault.Memory ≡ Status.NoMemory }
 {}
 
 /// A graph and a source have at most one text.

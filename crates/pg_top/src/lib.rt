@@ -2,17 +2,15 @@
 #![tactic(auto)]
 
 mod adjacency;
+mod columns;
 mod commands;
-mod faults;
 pub mod laws;
 mod planning;
 mod plans;
-mod printing;
 mod search;
 #[cfg(test)]
 mod tests;
 
 pub use commands::{Answer, Work, command};
-pub use faults::Fault;
 pub use planning::plan;
 pub use plans::{Algorithm, Plan, PlanFault};

@@ -1,10 +1,10 @@
 ghost use Rattle.std.specs.Prelude.{◌≡◌, Some, None, IfOk};
 ghost use Rattle.std.specs.Option.{option_map};
-ghost use Rattle.pg_metis.specs.Text.{number};
+ghost use Rattle.pg_text.specs.Text.{number};
 ghost use Rattle.pg_top.specs.Plan.{is_option, meaning_of, names_search, plan_of, search_of, texts};
 
 use crate::{Algorithm, Plan, PlanFault};
-use pg_metis::number;
+use pg_text::number;
 use std::alloc::Global;
 
 /// The most messages a lane holds where no word says otherwise.
@@ -47,7 +47,7 @@ fn planned_search(alloc: Global, file: &str, value: &[u8]) -> Result<Plan, PlanF
     ensures bad_words { result ≡ Err PlanFault.BadWords → number value.now ≡ None }
 {
     match number(value) {
-        Some(source) => search_plan(alloc, file, source),
+        Some(source) => search_plan(alloc, file, source as u32),
         None => Err(PlanFault::BadWords),
     }
 }

@@ -13,6 +13,8 @@ const PATH: &str = "3 2\n2\n1 3\n2\n";
 
 const MESH: &str = "7 11\n5 3 2\n1 3 4\n5 4 2 1\n2 3 6 7\n1 3 6\n5 4 7\n6 4\n";
 
+const WEIGHTED: &str = "4 2 1\n2 5\n1 5 3 2\n2 2\n\n";
+
 const LONG_PATH: &str = "6 5\n2\n1 3\n2 4\n3 5\n4 6\n5\n";
 
 /// What a run over one file with the name `B` left.
@@ -66,6 +68,13 @@ fn a_search_prints_the_least_number_of_arcs_to_each_vertex(rt: HostRuntime) -> R
         (PATH, "2", "1\n0\n1\n"),
         (MESH, "1", "0\n1\n1\n2\n1\n2\n3\n"),
         (LONG_PATH, "6", "5\n4\n3\n2\n1\n0\n"),
+        (WEIGHTED, "1", "0\n1\n2\n-\n"),
+        (
+            "% by hand\r\n2 1\r\n% vertex 1\r\n2\r\n1\r\n% end\r\n\r\n",
+            "1",
+            "0\n1\n",
+        ),
+        ("3 1 011 2\n7 0 2 9\n1 1 1 9\n4 4\n", "2", "1\n0\n-\n"),
         ("4 2\r\n2\r\n\t1  3\r\n2\n\n \n", "1", "0\n1\n2\n-\n"),
     ];
     for (file, source, text) in cases {
@@ -82,6 +91,8 @@ fn a_source_that_is_no_vertex_is_refused(rt: HostRuntime) -> Result<(), Fail> {
     let cases = [
         (PATH, "0", "source 0: not in the graph\n"),
         (PATH, "4", "source 4: not in the graph\n"),
+        (WEIGHTED, "0", "source 0: not in the graph\n"),
+        (WEIGHTED, "5", "source 5: not in the graph\n"),
         ("0 0\n", "1", "source 1: not in the graph\n"),
     ];
     for (file, source, line) in cases {
@@ -94,19 +105,24 @@ fn a_source_that_is_no_vertex_is_refused(rt: HostRuntime) -> Result<(), Fail> {
 }
 
 #[test]
-fn a_file_that_is_not_plain_is_refused_with_its_line(rt: HostRuntime) -> Result<(), Fail> {
+fn a_malformed_file_is_refused_with_its_first_faulty_line(rt: HostRuntime) -> Result<(), Fail> {
     let cases = [
-        ("3 2 1\n2\n1 3\n2\n", "line 1: HeaderWords\n"),
         ("", "line 1: NoHeader\n"),
-        ("1048577 0\n", "line 1: OverLimit\n"),
+        ("%a\n%b\n", "line 3: NoHeader\n"),
+        ("1\n\n", "line 1: HeaderWords\n"),
         ("3 2\n2\n1 x\n2\n", "line 3: BadNumber\n"),
+        ("1048577 0\n", "line 1: OverLimit\n"),
+        ("1 0 2\n\n", "line 1: BadFormat\n"),
+        ("3 2 1\n2\n1 3\n2\n", "line 2: ShortLine\n"),
         ("3 2\n2\n1 4\n2\n", "line 3: OutOfRange\n"),
-        ("3 2\n2\n1 2\n2\n", "line 3: SelfEdge\n"),
-        ("3 2\n2 2\n1 3\n2\n", "line 2: Repeated\n"),
-        ("3 2\n2\n1 3\n", "line 4: MissingLines\n"),
-        ("3 2\n2\n1 3\n2\n\n1\n", "line 6: ExtraText\n"),
-        ("3 1\n2\n1 3\n2\n", "line 1: WrongCount\n"),
-        ("3 2\n2\n1 3\n1\n", "line 3: NoMirror\n"),
+        ("1 1\n1\n", "line 2: SelfEdge\n"),
+        ("2 1\n2 2 x\n1\n", "line 2: Repeated\n"),
+        ("2 1 1\n2 0\n1 0\n", "line 2: ZeroWeight\n"),
+        ("3 1\n2\n1\n", "line 4: MissingLines\n"),
+        ("2 1\n2\n1\n3\n", "line 4: ExtraText\n"),
+        ("%\n2 2\n2\n1\n", "line 2: WrongCount\n"),
+        ("3 1\n2\n%\n3\n\n", "line 2: NoMirror\n"),
+        ("2 1 1\n2 5\n1 6\n", "line 2: MirrorWeight\n"),
     ];
     for (file, line) in cases {
         let seen = search(rt.alloc(), file, "1")?;

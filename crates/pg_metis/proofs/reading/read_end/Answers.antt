@@ -1,39 +1,57 @@
-use Rattle.std.proofs.Common.{arith, ◌≡◌, ◌<◌, ap, length, []}
-use Rattle.pg_metis.specs.Text.{words}
-use Rattle.pg_metis.specs.Taking.{IsNextLine, ahead}
-use Rattle.pg_metis.specs.Steps.{ReadsBlank, HasNoRows}
-use Rattle.pg_metis.proofs.LineLemmas.{took_line, took_none}
-use Rattle.pg_metis.proofs.StepLemmas.{told-then, told-on}
-use Rattle.pg_metis.proofs.RowLemmas.{reads_blank-more, extra-text, reads_end}
+use Rattle.std.proofs.Common.{◌≡◌, ◌∷◌, [], ◌∙◌, sym, ap, arith, true, false, IfSome, Some}
+use Rattle.std.proofs.lemmas.Result.{err_from_is_err_and}
+use Rattle.pg_text.specs.Text.{words}
+use Rattle.pg_metis.specs.Content.{NumberedLine}
+use Rattle.pg_metis.specs.Ahead.{content_ahead, IsPastLimit, Passes}
+use Rattle.pg_metis.specs.Fault.{extra_fault}
+use Rattle.pg_metis.specs.Reading.{blank_fault}
+use Rattle.pg_metis.proofs.ReadingLemmas.{past-blank, bad-blank, blank-on, extra-word, none-blank, takes-at}
+use Rattle.pg_metis.proofs.RefusalLemmas.{too_long-passed}
+use Rattle.pg_metis.proofs.ToldLemmas.{told-if, told-on, told-then}
 use Rattle.pg_metis.proofs.reading.read_end.Goals as goal
 
-pub returns-then-count_words-gt0-clause-refused : goal.returns-then-count_words-gt0-clause-refused
-returns-then-count_words-gt0-clause-refused g c =
-    let cur = c.loop-reader.reader in
-    let new = c.next.new.self in
-    let start = c.args.reader.now.taken in
-    let some : 0 < length (words new.line.items) = omega (arith, ap (λ l. length (words l)) c.line.ensures, c.count_words.ensures, c.if-count_words-gt0.true) in
-    let a = ahead c.args.reader.now (g.I.Inputs.left c.args.inputs.now) in
-    let b = ahead cur (g.I.Inputs.left c.loop-reader.inputs) in
-    let z = ahead new (g.I.Inputs.left c.next.new.inputs) in
-    told-then a z (λ text rest. HasNoRows 0 start text) (HasNoRows 0 start) (told-on a b z (λ text rest. ReadsBlank start text cur.taken rest) (λ text rest. IsNextLine new.line.items cur.taken text new.taken rest) (λ text rest. HasNoRows 0 start text) c.loop-reader.invariant.read (took_line _ cur new _ _ c.if-branch.true c.in_ok-next.ensures.ok) (λ x y z read next. extra-text new.line.items start cur.taken new.taken x y z read next some)) (λ text rest none. none)
+pub returns-in_err-next_content-clause-refused : goal.returns-in_err-next_content-clause-refused
+returns-in_err-next_content-clause-refused g c =
+    let p = err_from_is_err_and c.from_residual.result c.from_residual.ensures.1 in
+    let a = content_ahead c.args.reader.now (g.I.Inputs.left c.args.inputs.now) in
+    let b = content_ahead c.loop-reader.reader (g.I.Inputs.left c.loop-reader.inputs) in
+    rw (p.1, p.2) (too_long-passed c.in_err-next_content.field-0.0 (λ line. IfSome b (IsPastLimit line)) (λ fault. IfSome a (λ was. blank_fault was ≡ Some fault))
+    (λ line past. told-if a b (λ was now. blank_fault was ≡ blank_fault now) (IsPastLimit line) _ c.loop-reader.invariant.same past (λ was now same over. same ∙ past-blank line now over)) c.in_err-next_content.ensures.too_long)
+
+pub returns-then-has_word-clause-refused : goal.returns-then-has_word-clause-refused
+returns-then-has_word-clause-refused g c =
+    let new = c.next_content.new.reader in
+    let line : NumberedLine = record { number = new.lines; bytes = new.line.items } in
+    let bad = ap (λ bytes. extra_fault (words bytes)) (sym c.line.ensures) ∙ extra-word (words c.line.result.now) (c.has_word.ensures.some c.if-has_word.true) in
+    told-if _ _ (λ was now. blank_fault was ≡ blank_fault now) _ _ c.loop-reader.invariant.same
+    (told-then _ _ _ _ (takes-at c.in_ok-next_content.field-0 true new.lines new.line.items _ _ c.if-branch.true c.in_ok-next_content.ensures.ok)
+    (λ was now passes. bad-blank line c.line_number.result was now passes bad (sym c.line_number.ensures.number)))
+    (λ was now same is. same ∙ is)
+
+pub loop-reader-smaller : goal.loop-reader-smaller
+loop-reader-smaller g c =
+    let more = c.in_ok-next_content.ensures.lines c.if-branch.true in
+    let few = c.next_content.new.reader.few in
+    omega arith
 
 pub loop-reader-preserved : goal.loop-reader-preserved
 loop-reader-preserved g c =
-    let cur = c.loop-reader.reader in
-    let new = c.next.new.self in
-    let start = c.args.reader.now.taken in
-    let none : length (words new.line.items) ≡ 0 = omega (arith, ap (λ l. length (words l)) c.line.ensures, c.count_words.ensures, c.if-count_words-gt0.false) in
     let inv = c.loop-reader.invariant in
+    let new = c.next_content.new.reader in
+    let line : NumberedLine = record { number = new.lines; bytes = new.line.items } in
+    let fine = ap (λ bytes. extra_fault (words bytes)) (sym c.line.ensures) ∙ ap extra_fault (c.has_word.ensures.none c.if-has_word.false) in
     record {
-      later = omega (arith, inv.later, c.next.ensures.later);
-      begun = cc (c.next.ensures.begun, inv.begun);
-      files = cc (c.next.ensures.files, inv.files);
-      read = told-on _ _ _ (λ text rest. ReadsBlank start text cur.taken rest) (λ text rest. IsNextLine new.line.items cur.taken text new.taken rest) _ inv.read (took_line _ cur new _ _ c.if-branch.true c.in_ok-next.ensures.ok) (λ x y z read next. reads_blank-more new.line.items start cur.taken new.taken x y z read next none);
+      later = omega (arith, inv.later, c.next_content.ensures.later);
+      begun = cc (c.next_content.ensures.begun, inv.begun);
+      files = cc (c.next_content.ensures.files, inv.files);
+      same = told-on _ _ _ (λ was now. blank_fault was ≡ blank_fault now) (Passes (line ∷ [])) _ inv.same
+          (takes-at c.in_ok-next_content.field-0 true new.lines new.line.items _ _ c.if-branch.true c.in_ok-next_content.ensures.ok)
+          (λ was mid now before passes. before ∙ blank-on line mid now passes fine);
     }
 
 pub returns-clause-ok : goal.returns-clause-ok
 returns-clause-ok g c =
-    let cur = c.loop-reader.reader in
-    let start = c.args.reader.now.taken in
-    told-on _ _ _ (λ text rest. ReadsBlank start text cur.taken rest) (λ text rest. (text ≡ []) × (rest ≡ [])) _ c.loop-reader.invariant.read (took_none _ cur c.next.new.self _ _ c.if-branch.false c.in_ok-next.ensures.ok) (λ x y z read none. reads_end start cur.taken x y z cur.few_bytes read none)
+    let new = c.next_content.new.reader in
+    told-if _ _ (λ was now. blank_fault was ≡ blank_fault now) _ _ c.loop-reader.invariant.same
+    (told-then _ _ _ _ (takes-at c.in_ok-next_content.field-0 false new.lines new.line.items _ _ c.if-branch.false c.in_ok-next_content.ensures.ok) (λ was now takes. none-blank new.lines new.line.items was now takes))
+    (λ was now same fine. same ∙ fine)

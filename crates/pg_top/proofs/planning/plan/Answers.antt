@@ -1,7 +1,7 @@
 use Rattle.std.proofs.Common.{◌≡◌, ◌∙◌, true, false, ap}
 use Rattle.std.specs.Prelude.{string_bytes}
 use Rattle.std.specs.Option.{option_map}
-use Rattle.pg_metis.specs.Text.{number}
+use Rattle.pg_text.specs.Text.{number}
 use Rattle.pg_top.specs.Plan.{names_search, plan_of, search_of, texts}
 use Rattle.pg_top.proofs.PlanLaws.{plan_of-other_count, plan_of-named, plan_of-unnamed}
 use Rattle.pg_top.proofs.planning.plan.Goals as goal

@@ -1,0 +1,61 @@
+use Rattle.std.proofs.Common.{◌≡◌, ◌≢◌, ◌∷◌, [], List, subst, ◌∙◌, sym, ap, arith, ℕ, true, false, IfSome, Some}
+use Rattle.std.proofs.lemmas.Result.{err_from_is_err_and}
+use Rattle.pg_text.specs.Text.{words}
+use Rattle.pg_metis.specs.Ahead.{content_ahead, IsPastLimit, Passes}
+use Rattle.pg_metis.specs.Content.{Content, NumberedLine}
+use Rattle.pg_metis.specs.Parts.{parts_content_fault}
+use Rattle.pg_metis.proofs.PartsReadingLemmas.{blank-passes, extra-part, no-more, past-parts}
+use Rattle.pg_metis.proofs.PartsRefusals.{long-line-passed}
+use Rattle.pg_metis.proofs.ReadingLemmas.{takes-at}
+use Rattle.pg_metis.proofs.ToldLemmas.{told-if, told-on, told-then}
+use Rattle.pg_metis.proofs.parts_files.read_end.Goals as goal
+
+-- The lines between were blank.
+abbrev Same : Content → Content → Type 0
+Same was now = (ranks : ℕ) → parts_content_fault 0 ranks was ≡ parts_content_fault 0 ranks now
+
+pub returns-in_err-next_content-clause-refused : goal.returns-in_err-next_content-clause-refused
+returns-in_err-next_content-clause-refused g c =
+    let p = err_from_is_err_and c.from_residual.result c.from_residual.ensures.1 in
+    let a = content_ahead c.args.reader.now (g.I.Inputs.left c.args.inputs.now) in
+    let b = content_ahead c.loop-reader.reader (g.I.Inputs.left c.loop-reader.inputs) in
+    rw (p.1, p.2) (long-line-passed c.in_err-next_content.field-0.0 (λ line. IfSome b (IsPastLimit line)) (λ fault. IfSome a (λ was. (ranks : ℕ) → parts_content_fault 0 ranks was ≡ Some fault))
+    (λ line past. told-if a b Same (IsPastLimit line) _ c.loop-reader.invariant.same past (λ was now same over ranks. same ranks ∙ past-parts line now over 0 ranks)) c.in_err-next_content.ensures.too_long)
+
+pub returns-then-has_word-clause-refused : goal.returns-then-has_word-clause-refused
+returns-then-has_word-clause-refused g c =
+    let new = c.next_content.new.reader in
+    let line : NumberedLine = record { number = new.lines; bytes = new.line.items } in
+    let some = subst (λ (bytes : List ℕ). words bytes ≢ []) c.line.ensures (c.has_word.ensures.some c.if-has_word.true) in
+    told-if _ _ Same _ _ c.loop-reader.invariant.same
+    (told-then _ _ _ _ (takes-at c.in_ok-next_content.field-0 true new.lines new.line.items _ _ c.if-branch.true c.in_ok-next_content.ensures.ok)
+    (λ was now passes. extra-part line c.line_number.result was now passes some (sym c.line_number.ensures.number)))
+    (λ was now same bad ranks. same ranks ∙ bad ranks)
+
+pub loop-reader-smaller : goal.loop-reader-smaller
+loop-reader-smaller g c =
+    let more = c.in_ok-next_content.ensures.lines c.if-branch.true in
+    let few = c.next_content.new.reader.few in
+    omega arith
+
+pub loop-reader-preserved : goal.loop-reader-preserved
+loop-reader-preserved g c =
+    let inv = c.loop-reader.invariant in
+    let new = c.next_content.new.reader in
+    let line : NumberedLine = record { number = new.lines; bytes = new.line.items } in
+    let none = ap words (sym c.line.ensures) ∙ c.has_word.ensures.none c.if-has_word.false in
+    record {
+      later = omega (arith, inv.later, c.next_content.ensures.later);
+      begun = cc (c.next_content.ensures.begun, inv.begun);
+      files = cc (c.next_content.ensures.files, inv.files);
+      same = told-on _ _ _ Same (Passes (line ∷ [])) _ inv.same
+          (takes-at c.in_ok-next_content.field-0 true new.lines new.line.items _ _ c.if-branch.true c.in_ok-next_content.ensures.ok)
+          (λ was mid now before passes ranks. before ranks ∙ blank-passes line mid now passes none ranks);
+    }
+
+pub returns-clause-ok : goal.returns-clause-ok
+returns-clause-ok g c =
+    let new = c.next_content.new.reader in
+    told-if _ _ Same _ _ c.loop-reader.invariant.same
+    (told-then _ _ _ _ (takes-at c.in_ok-next_content.field-0 false new.lines new.line.items _ _ c.if-branch.false c.in_ok-next_content.ensures.ok) (λ was now takes. no-more new.lines new.line.items was now takes))
+    (λ was now same fine ranks. same ranks ∙ fine ranks)

@@ -1,0 +1,21 @@
+use Rattle.std.proofs.Common.{◌≡◌, IfSome, Some}
+use Rattle.std.proofs.lemmas.Result.{err_from_is_err_and}
+use Rattle.pg_metis.specs.Fault.{body_fault}
+use Rattle.pg_metis.specs.Headers.{header_in}
+use Rattle.pg_metis.specs.Ahead.{content_ahead}
+use Rattle.pg_metis.specs.Reading.{blank_fault}
+use Rattle.pg_metis.proofs.ReadingLemmas.{blank-fault, reads-body}
+use Rattle.pg_metis.proofs.RefusalLemmas.{refused-passed}
+use Rattle.pg_metis.proofs.reading.read_body.Goals as goal
+
+pub returns-in_err-read_end-clause-refused : goal.returns-in_err-read_end-clause-refused
+returns-in_err-read_end-clause-refused g c =
+    let p = err_from_is_err_and c.from_residual-in_err-read_end.result c.from_residual-in_err-read_end.ensures.1 in
+    let header = header_in c.args.header in
+    let a = content_ahead c.args.reader.now (g.I.Inputs.left c.args.inputs.now) in
+    let b = content_ahead c.read_rows.new.reader (g.I.Inputs.left c.read_rows.new.inputs) in
+    rw (p.1, p.2) (refused-passed c.in_err-read_end.field-0.0 (λ fault. IfSome b (λ was. blank_fault was ≡ Some fault)) (λ fault. IfSome a (λ was. body_fault header 1 was ≡ Some fault))
+    (λ fault rest. blank-fault header _ a b (Some fault) c.in_ok-read_rows.ensures.ok rest) c.in_err-read_end.ensures.refused)
+
+pub returns-clause-ok : goal.returns-clause-ok
+returns-clause-ok g c = reads-body (header_in c.args.header) _ _ _ c.in_ok-read_rows.ensures.ok c.in_ok-read_end.ensures.ok

@@ -1,0 +1,98 @@
+//! The texts, as a sink in memory gets them.
+ghost use Rattle.std.specs.Prelude.{◌≤◌, length};
+
+use crate::{Column, Fault, print_column, print_fault};
+use pg_base::Vertex;
+use pg_metis::{Kind, PartsKind};
+use pg_outside::MemorySink;
+use std::alloc::Global;
+use std::test::Fail;
+
+#[derive(Drop)]
+struct Answers {
+    list: Vec<Option<u64>>,
+    ghost few: { length list.items ≤ 1048576 },
+}
+
+impl Column for Answers {
+    ghost answers = { λ a. a.list.items };
+
+    fn len(&self) -> u32 {
+        self.list.len() as u32
+    }
+
+    fn at(&self, v: Vertex) -> Option<u64> {
+        self.list[v.0 as usize - 1]
+    }
+}
+
+/// Nothing for the second of three vertices.
+fn column(alloc: Global) -> Result<Answers, Fail> {
+    let list = vec![in alloc; Some(7), None, Some(u64::MAX)]?;
+    Ok(Answers { list })
+}
+
+#[test]
+fn each_answer_is_a_line_and_none_is_a_hyphen(rt: HostRuntime) -> Result<(), Fail> {
+    let alloc = rt.alloc();
+    let mut out = MemorySink::new(alloc, 64, Vec::new(alloc))?;
+    let written = print_column(&mut out, &column(alloc)?);
+    assert!(rt; written.is_ok());
+    assert_eq!(rt; out.text(), b"7\n-\n18446744073709551615\n".as_slice());
+    Ok(())
+}
+
+#[test]
+fn each_line_is_one_write(rt: HostRuntime) -> Result<(), Fail> {
+    let alloc = rt.alloc();
+    for (call, text) in [(1, ""), (2, "7\n"), (3, "7\n-\n")] {
+        let mut out = MemorySink::new(alloc, 64, vec![in alloc; (call, 0)]?)?;
+        let written = print_column(&mut out, &column(alloc)?);
+        assert!(rt; written.is_err());
+        assert_eq!(rt; out.text(), text.as_bytes());
+    }
+    Ok(())
+}
+
+#[test]
+fn a_sink_that_is_full_keeps_a_front(rt: HostRuntime) -> Result<(), Fail> {
+    let alloc = rt.alloc();
+    let mut out = MemorySink::new(alloc, 3, Vec::new(alloc))?;
+    let written = print_column(&mut out, &column(alloc)?);
+    assert!(rt; written.is_err());
+    assert_eq!(rt; out.text(), b"7\n-".as_slice());
+    Ok(())
+}
+
+#[test]
+fn each_fault_has_its_line(rt: HostRuntime) -> Result<(), Fail> {
+    let alloc = rt.alloc();
+    let cases = [
+        (Fault::Words, "bad words\n"),
+        (
+            Fault::Graph {
+                line: 12,
+                kind: Kind::MirrorWeight,
+            },
+            "line 12: MirrorWeight\n",
+        ),
+        (
+            Fault::Parts {
+                line: 3,
+                kind: PartsKind::OutOfRange,
+            },
+            "parts line 3: OutOfRange\n",
+        ),
+        (Fault::Source { source: 0 }, "source 0: not in the graph\n"),
+        (Fault::Read, "cannot read\n"),
+        (Fault::Write, "cannot write\n"),
+        (Fault::Memory, "no memory\n"),
+    ];
+    for (fault, line) in cases {
+        let mut out = MemorySink::new(alloc, 64, Vec::new(alloc))?;
+        let written = print_fault(&mut out, &fault);
+        assert!(rt; written.is_ok());
+        assert_eq!(rt; out.text(), line.as_bytes());
+    }
+    Ok(())
+}

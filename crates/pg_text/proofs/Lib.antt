@@ -1,0 +1,4 @@
+pub mod AheadLemmas
+pub mod NumberLemmas
+pub mod ReaderLemmas
+pub mod WordLemmas

@@ -1,0 +1,24 @@
+-- What a giver of numbered lines has ahead of it.
+use Rattle.std.specs.Prelude.{ℕ, Option, Some, None, List}
+use Rattle.std.specs.Option.{option_map}
+use Rattle.pg_text.specs.Ahead.{Ahead, ahead_within}
+use Rattle.pg_text.specs.Coming.{coming}
+use Rattle.pg_text.specs.declared.readers.LineReader.{LineReader}
+use Rattle.pg_text.specs.declared.lines.Lines.{Lines}
+
+-- The lines ahead of a reader, or those of all that is left where there is none yet.
+abbrev pub ahead_of : Option LineReader → ℕ → Option (List ℕ) → Option Ahead
+ahead_of None limit left = option_map (ahead_within limit) left
+ahead_of (Some reader) limit left = coming reader left
+
+abbrev pub given_by : Option LineReader → ℕ
+given_by None = 0
+given_by (Some reader) = reader.lines
+
+-- The lines not yet given, where the input tells what it has left.
+unfoldable pub ahead : {I : Type 0} → Lines I → Option (List ℕ) → Option Ahead
+ahead lines left = ahead_of lines.reader lines.limit left
+
+-- How many lines were given.
+unfoldable pub given : {I : Type 0} → Lines I → ℕ
+given lines = given_by lines.reader

@@ -1,0 +1,9 @@
+pub mod Text
+pub mod Ahead
+pub mod Coming
+pub mod Answers
+pub mod Cuts
+pub mod Taking
+pub mod Giving
+pub mod Examples
+pub mod AheadLaws
