@@ -2,7 +2,7 @@
 use Rattle.std.proofs.Common.{◌⊎◌, inl, inr, subst, length-set, get_or-set_same, ◌≡◌, ◌≢◌, ℕ, zero, suc, ◌+◌, ◌<◌, ◌≤◌, Bool, false, List, [], ◌∷◌, ◌++◌, length, map, get_or, set, refl, sym, ap, ◌∙◌, arith}
 use Rattle.std.proofs.lemmas.Bool.{cases_lt}
 use Rattle.std.specs.Prelude.{slice_get, Some}
-use Rattle.std.proofs.lemmas.Option.{slice_get_read}
+use Rattle.std.proofs.lemmas.Option.{slice_get_read, get_or_from_slice_get}
 use Rattle.std.proofs.lemmas.Bool.Decides.{nat_tests}
 use Rattle.pg_group.specs.Ranked.{place_of, by_rank, append_at, all_clear}
 
@@ -136,6 +136,15 @@ module _ {P : Type 0} (ps : List P) (own ranks rank i : ℕ) (p q : P) (in_range
   lane_after =
       let same : length (set ps i q) ≡ length ps = length-set ps i q in
       ap (slice_get (set ps i q)) (sym at_place) ∙ slice_get_read (set ps i q) (length (set ps i q)) i q refl (omega (arith, within, same)) (sym (get_or-set_same ps i q q within))
+
+-- what the lane of another rank says, found in the list by rank
+pub said_of : {P X : Type 0} (ps : List P) (own r rank n : ℕ) (p : P) → own ≡ r → r < n → rank < n → r ≢ rank → length ps + 1 ≡ n → slice_get ps (place_of r rank) ≡ Some p
+    → (f : P → X) (d : X) → get_or (by_rank d own (map f ps)) rank d ≡ f p
+said_of ps own r rank n p is_own r_in rank_in apart fit at f d =
+    let low : own < n = omega arith in
+    let other : rank ≢ own = λ e. apart (sym (e ∙ is_own)) in
+    let here : slice_get ps (place_of own rank) ≡ Some p = ap (λ o. slice_get ps (place_of o rank)) is_own ∙ at in
+    lane_at ps own n rank (place_of own rank) p p rank_in (λ some. fit) (λ some. low) other refl (sym (get_or_from_slice_get ps (place_of own rank) p p here)) f d
 
 -- the flags with the first ones cleared
 abbrev pub cleared : ℕ → List Bool → List Bool

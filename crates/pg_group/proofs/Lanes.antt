@@ -1,5 +1,5 @@
 -- What one more envelope, or one more body, does to a lane's lists.
-use Rattle.std.proofs.Common.{◌≡◌, ℕ, zero, suc, ◌+◌, ◌%◌, ◌^◌, true, List, [], ◌∷◌, ◌++◌, length, refl, sym, ap, ◌∙◌, arith, subst, length-append}
+use Rattle.std.proofs.Common.{◌≡◌, ℕ, zero, suc, ◌+◌, ◌%◌, ◌^◌, true, List, [], ◌∷◌, ◌++◌, length, take, refl, sym, ap, ◌∙◌, arith, subst, length-append}
 use Rattle.std.specs.Prelude.{slice_get, Some}
 use Rattle.pg_group.specs.declared.messages.Body.{Body}
 use Rattle.pg_group.specs.declared.messages.Body.TheVariants.{Item, Mark}
@@ -35,6 +35,16 @@ module _ {B : Type 0} where
       let from_zero : (j : ℕ) → j ≡ 0 + j = λ j. omega arith in
       numbered_push 0 es e (λ j z at'. before j z at' ∙ ap (λ m. m % 2 ^ 64) (from_zero j)) (last ∙ ap (λ m. m % 2 ^ 64) (from_zero (length es))) k x at
       ∙ ap (λ m. m % 2 ^ 64) (sym (from_zero k))
+
+  take_entry : (n k : ℕ) (es : List (Envelope B)) (e : Envelope B) → slice_get (take n es) k ≡ Some e → slice_get es k ≡ Some e
+  take_entry zero k es e at = cc
+  take_entry (suc n) k [] e at = at
+  take_entry (suc n) zero (x ∷ es) e at = at
+  take_entry (suc n) (suc k) (x ∷ es) e at = take_entry n k es e at
+
+  -- the front of a numbered list is numbered
+  pub IsNumbered-take : (n : ℕ) (es fs : List (Envelope B)) → fs ≡ take n es → IsNumbered es → IsNumbered fs
+  IsNumbered-take n es fs front numbered k e at = numbered k e (take_entry n k es e (ap (λ l. slice_get l k) (sym front) ∙ at))
 
   from_marks : (bs : List (Body B)) (x : B) (n : ℕ) → marks bs ≡ n → items_of_round n (bs ++ Item x ∷ []) ≡ items_of_round n bs ++ x ∷ []
   from_marks [] x zero e = refl

@@ -4,3 +4,8 @@ pub mod Answered
 pub mod Growing
 pub mod Opening
 pub mod Popped
+pub mod LanePlaces
+pub mod Leaving
+pub mod Ending
+pub mod Shown
+pub mod RollLemmas

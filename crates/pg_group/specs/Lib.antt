@@ -4,3 +4,6 @@ pub mod Envelopes
 pub mod Polls
 pub mod Entries
 pub mod Grouped
+pub mod Settling
+pub mod Supersteps
+pub mod Rolls

@@ -1,0 +1,176 @@
+ghost use Rattle.std.specs.Prelude.{◌≡◌, ◌⊎◌, ℕ, ◌+◌, ◌<◌, ◌≤◌, ◌↔◌, true, Option, None, IfSome};
+ghost use Rattle.pg_base.specs.declared.TheConstants.{MAX_RANKS};
+ghost use Rattle.pg_group.specs.declared.messages.Vote.{Vote};
+ghost use Rattle.pg_group.specs.Ranked.{IsOther};
+
+use crate::{Narrow, Next, Outbox, Program, Vote, Worked};
+use pg_base::{RankNo, Ranks};
+
+/// A small program that calls the roll: in each round it sends its rank's number once to every other rank,
+/// and it counts what it gets. It votes zeros, and stops with its last round.
+#[derive(Clone, Copy, Debug, PartialEq, Eq)]
+pub struct Roll {
+    rank: RankNo,
+    ranks: Ranks,
+    rounds: u32,
+    round: u32,
+    // Every other rank below was sent the number since the last vote.
+    next: u32,
+    taken: u64,
+    idle: bool,
+    cast: Option<Vote>,
+    ended: bool,
+    ghost in_group: { rank.0 < ranks },
+    ghost in_rounds: { round < rounds },
+    ghost all_sent: { idle ≡ true → cast ≡ None → (to : ℕ) → IsOther rank.0 ranks to → to < next },
+}
+
+const ZEROS: Vote = Vote {
+    a: 0,
+    b: 0,
+    c: 0,
+    d: 0,
+};
+
+impl Roll {
+    ghost use Rattle.pg_group.specs.Rolls.{IsNewRoll, SentToAll};
+
+    /// The roll of one rank of a group, for this many rounds.
+    pub fn new(rank: RankNo, ranks: Ranks, rounds: u32) -> Roll
+        requires within { rank.0 < ranks }
+        requires at_least_one { 1 ≤ rounds }
+        ensures new { ⟦<Roll as Program>⟧.IsNew result }
+        ensures own { ⟦<Roll as Program>⟧.own result ≡ rank.0 }
+        ensures size { ⟦<Roll as Program>⟧.size result ≡ ranks }
+        ensures rounds { result.rounds ≡ rounds }
+    {
+        Roll {
+            rank,
+            ranks,
+            rounds,
+            round: 0,
+            next: 0,
+            taken: 0,
+            idle: false,
+            cast: None,
+            ended: false,
+        }
+    }
+
+    /// How many messages it has taken, modulo 2^64.
+    pub fn taken(&self) -> u64
+        ensures { result ≡ self.now.taken }
+    {
+        self.taken
+    }
+
+    // The next rank that is sent the number in this round.
+    fn receiver(&self) -> Option<RankNo>
+        ensures other { IfSome result (λ to. IsOther self.now.rank.0 self.now.ranks to.0) }
+        ensures ascending { IfSome result (λ to. (self.now.next ≡ to.0) ⊎ ((self.now.next ≡ self.now.rank.0) × (to.0 ≡ self.now.next + 1))) }
+        ensures few { IfSome result (λ to. to.0 < MAX_RANKS) }
+        ensures all_sent { result ≡ None → SentToAll self.now }
+    {
+        let ranks = self.ranks.count();
+        let to = if self.next == self.rank.0 {
+            self.next + 1
+        } else {
+            self.next
+        };
+        (to < ranks).then_some(RankNo(to))
+    }
+}
+
+impl Program for Roll {
+    ghost use Rattle.std.specs.Prelude.{false, List, length, slice_get, nat_eq};
+    ghost use Rattle.pg_group.specs.declared.messages.Body.{Body};
+    ghost use Rattle.pg_group.specs.declared.rolls.Roll.{Roll};
+    ghost use Rattle.pg_group.specs.Supersteps.{append_marks, is_stop, OnAgain, OnStop};
+    ghost use Rattle.pg_group.specs.Rolls.{IsNewRoll, HasRolled, SentOne, SentToAll, IsZeros};
+
+    type Body = u32;
+
+    ghost own = { λ roll. roll.rank.0 };
+
+    ghost size = { λ roll. roll.ranks };
+
+    ghost round = { λ roll. roll.round };
+
+    ghost cast = { λ roll. roll.cast };
+
+    ghost idle = { λ roll. roll.idle };
+
+    ghost ended = { λ roll. roll.ended };
+
+    ghost IsNew = { IsNewRoll };
+
+    ghost Keeps = { HasRolled };
+
+    ghost DidItem = { λ roll sent after more_sent. SentOne roll sent more_sent };
+
+    ghost IsVote = { IsZeros };
+
+    ghost NothingLeft = { SentToAll };
+
+    fn rank(&self) -> RankNo {
+        self.rank
+    }
+
+    fn ranks(&self) -> Ranks {
+        self.ranks
+    }
+
+    fn handle(&mut self, _from: RankNo, _body: u32) {
+        self.taken = self.taken.wrapping_add(1);
+    }
+
+    fn work<O: Outbox<u32>>(&mut self, out: &mut O) -> Worked {
+        match self.receiver() {
+            None => {
+                self.idle = true;
+                Worked::Idle
+            }
+            Some(to) => match out.send(to, self.rank.0) {
+                Ok(()) => {
+                    self.next = to.0 + 1;
+                    Worked::More
+                }
+                Err(_) => Worked::Blocked { to },
+            },
+        }
+    }
+
+    fn vote(&mut self) -> Vote {
+        self.next = 0;
+        self.cast = Some(ZEROS);
+        ZEROS
+    }
+
+    fn round_end(&mut self, _votes: &[Vote]) -> Next
+        requires running { self.old.ended ≡ false }
+        requires each { length _votes.now ≡ self.old.ranks }
+        requires mine { slice_get _votes.now self.old.rank.0 ≡ self.old.cast }
+        ensures kept { (start : Roll) (handled sent : List (List (Body ℕ))) → HasRolled start handled sent self.old
+            → HasRolled start (append_marks self.old.rank.0 _votes.now handled) sent self.new }
+        ensures stops { is_stop result ≡ nat_eq (self.old.round + 1) self.old.rounds }
+        ensures stop { self.new.ended ≡ is_stop result }
+        ensures again { OnAgain result (self.new.round ≡ self.old.round + 1) }
+        ensures uncast { OnAgain result (self.new.cast ≡ None) }
+        ensures last_round { OnStop result (self.new.round ≡ self.old.round) }
+        ensures same_own { self.new.rank.0 ≡ self.old.rank.0 }
+        ensures same_size { self.new.ranks ≡ self.old.ranks }
+    {
+        if self.round + 1 == self.rounds {
+            self.ended = true;
+            return Next::Stop;
+        }
+        self.round += 1;
+        self.cast = None;
+        self.idle = false;
+        Next::Again
+    }
+}
+
+impl Narrow for Roll {
+    ghost narrow = { λ vote zeros. (zeros.c, zeros.d) };
+}
