@@ -1,0 +1,4 @@
+pub mod MineLemmas
+pub mod MarkLemmas
+pub mod MemberLemmas
+pub mod PairLemmas

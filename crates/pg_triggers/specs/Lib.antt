@@ -1,0 +1,4 @@
+pub mod Mine
+pub mod Paired
+pub mod Posts
+pub mod Votes

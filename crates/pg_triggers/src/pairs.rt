@@ -1,0 +1,168 @@
+ghost use Rattle.std.specs.Prelude.{◌≡◌, ℕ, ◌≤◌, ◌&&◌, true, false, None, option_map};
+ghost use Rattle.std.specs.Option.{ForSome};
+ghost use Rattle.pg_triggers.specs.Votes.{IsResting};
+ghost use Rattle.pg_triggers.specs.Mine.{first_vote, second_vote};
+
+use crate::Of2;
+use crate::members::Member;
+use crate::outs::{FirstOut, SecondOut};
+use crate::votes::{first_votes, second_votes};
+use pg_base::{RankNo, Ranks};
+use pg_group::{Narrow, Next, Outbox, Program, Vote, Worked};
+use std::marker::PhantomData;
+
+/// Two programs over one group. The first member's vote is the pair's `a` and `b`, the second one's its `c`
+/// and `d`. The pair stops where both have stopped; until then a member that stopped rests.
+#[derive(Drop)]
+pub struct Pair<A: Narrow, B: Narrow> {
+    first: A,
+    second: B,
+    first_ended: bool,
+    second_ended: bool,
+    vote: Option<Vote>,
+    ghost same_rank: { B.own second ≡ A.own first },
+    ghost same_size: { B.size second ≡ A.size first },
+    ghost first_ends: { first_ended ≡ A.ended first },
+    ghost second_ends: { second_ended ≡ B.ended second },
+    ghost first_casts: { first_ended ≡ false → A.cast first ≡ option_map first_vote vote },
+    ghost second_casts: { second_ended ≡ false → B.cast second ≡ option_map second_vote vote },
+    ghost first_runs: { first_ended ≡ false → B.round second ≤ A.round first },
+    ghost second_runs: { second_ended ≡ false → A.round first ≤ B.round second },
+    ghost first_rests: { (first_ended && second_ended) ≡ false → first_ended ≡ true → ForSome vote (λ v. IsResting v.a v.b) },
+    ghost second_rests: { (first_ended && second_ended) ≡ false → second_ended ≡ true → ForSome vote (λ v. IsResting v.c v.d) },
+    ghost goes_on: { vote ≡ None → (first_ended && second_ended) ≡ false },
+}
+
+impl<A: Narrow, B: Narrow> Pair<A, B> {
+    /// The pair of two new programs of one rank.
+    pub fn new(first: A, second: B) -> Pair<A, B>
+        requires first_new { A.IsNew first }
+        requires second_new { B.IsNew second }
+        requires same_rank { B.own second ≡ A.own first }
+        requires same_size { B.size second ≡ A.size first }
+        ensures new { ⟦<Pair<A, B> as Program>⟧.IsNew result }
+        ensures own { ⟦<Pair<A, B> as Program>⟧.own result ≡ A.own first }
+        ensures size { ⟦<Pair<A, B> as Program>⟧.size result ≡ A.size first }
+        ensures first { result.first ≡ first }
+        ensures second { result.second ≡ second }
+    {
+        let _first = first.rank();
+        let _second = second.rank();
+        Pair {
+            first,
+            second,
+            first_ended: false,
+            second_ended: false,
+            vote: None,
+        }
+    }
+
+    /// The first member.
+    pub fn first(&self) -> &A
+        ensures { result.now ≡ self.now.first }
+    {
+        &self.first
+    }
+
+    /// The second member.
+    pub fn second(&self) -> &B
+        ensures { result.now ≡ self.now.second }
+    {
+        &self.second
+    }
+}
+
+impl<A: Narrow, B: Narrow> Program for Pair<A, B> {
+    ghost use Rattle.std.specs.Prelude.{◌≡◌, ℕ, ◌&&◌, ◌||◌, ◌⊎◌, false, None, max};
+    ghost use Rattle.pg_triggers.specs.Mine.{first_item, second_item, first_vote, second_vote, whole};
+    ghost use Rattle.pg_triggers.specs.Paired.{BothKeep};
+    ghost use Rattle.pg_group.specs.declared.messages.Vote.{Vote};
+
+    type Body = Of2<A::Body, B::Body>;
+
+    ghost own = { λ p. A.own p.first };
+
+    ghost size = { λ p. A.size p.first };
+
+    ghost round = { λ p. max (A.round p.first) (B.round p.second) };
+
+    ghost cast = { λ p. p.vote };
+
+    ghost idle = { λ p. (p.first_ended || A.idle p.first) && (p.second_ended || B.idle p.second) };
+
+    ghost ended = { λ p. p.first_ended && p.second_ended };
+
+    ghost IsNew = { λ p. A.IsNew p.first × B.IsNew p.second × (p.vote ≡ None) };
+
+    ghost Keeps = { λ start handled sent p. BothKeep (λ h s. A.Keeps start.first h s p.first) (λ h s. B.Keeps start.second h s p.second)
+        (A.own p.first) (A.size p.first) (A.round p.first) (B.round p.second) p.first_ended p.second_ended p.vote handled sent };
+
+    ghost DidItem = { λ old sent new more.
+        A.DidItem old.first (whole first_item first_vote sent) new.first (whole first_item first_vote more)
+        ⊎ B.DidItem old.second (whole second_item second_vote sent) new.second (whole second_item second_vote more) };
+
+    ghost IsVote = { λ vote. (A.IsVote (first_vote vote) ⊎ IsResting vote.a vote.b) × (B.IsVote (second_vote vote) ⊎ IsResting vote.c vote.d) };
+
+    ghost NothingLeft = { λ p. (p.first_ended ≡ false → A.NothingLeft p.first) × (p.second_ended ≡ false → B.NothingLeft p.second) };
+
+    fn rank(&self) -> RankNo {
+        let _second = self.second.rank();
+        self.first.rank()
+    }
+
+    fn ranks(&self) -> Ranks {
+        self.first.ranks()
+    }
+
+    fn handle(&mut self, from: RankNo, body: Of2<A::Body, B::Body>) {
+        match body {
+            Of2::First(item) => self.first.handle(from, item),
+            Of2::Second(item) => self.second.handle(from, item),
+        }
+    }
+
+    fn work<O: Outbox<Of2<A::Body, B::Body>>>(&mut self, out: &mut O) -> Worked {
+        let mut first_out = FirstOut {
+            out: &mut *out,
+            others: PhantomData::<B::Body>,
+        };
+        match self.first.work_on(self.first_ended, &mut first_out) {
+            Worked::More => Worked::More,
+            Worked::Blocked { to } => Worked::Blocked { to },
+            Worked::Idle => {
+                let mut second_out = SecondOut {
+                    out,
+                    others: PhantomData::<A::Body>,
+                };
+                self.second.work_on(self.second_ended, &mut second_out)
+            }
+        }
+    }
+
+    fn vote(&mut self) -> Vote {
+        let first = self.first.vote_on(self.first_ended);
+        let second = self.second.vote_on(self.second_ended);
+        let vote = Vote {
+            a: first.a,
+            b: first.b,
+            c: second.a,
+            d: second.b,
+        };
+        self.vote = Some(vote);
+        vote
+    }
+
+    fn round_end(&mut self, votes: &[Vote]) -> Next {
+        let _own = self.first.rank();
+        let ranks = self.first.ranks().count() as usize;
+        let firsts = first_votes(votes);
+        let seconds = second_votes(votes);
+        self.first_ended = self.first.end_on(self.first_ended, &firsts[..ranks]);
+        self.second_ended = self.second.end_on(self.second_ended, &seconds[..ranks]);
+        if self.first_ended && self.second_ended {
+            return Next::Stop;
+        }
+        self.vote = None;
+        Next::Again
+    }
+}
