@@ -1,0 +1,9 @@
+pub mod ByRank
+pub mod Marks
+pub mod Steps
+pub mod Promises
+pub mod Either
+pub mod Passes
+pub mod WholeBook
+pub mod Fresh
+pub mod Seating

@@ -1,0 +1,9 @@
+pub mod Ballots
+pub mod Rounds
+pub mod Kept
+pub mod Steps
+pub mod Turns
+pub mod Driven
+pub mod Book
+pub mod Room
+pub mod Pairs

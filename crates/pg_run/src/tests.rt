@@ -1,0 +1,59 @@
+//! Whole runs of small groups.
+ghost use Rattle.std.specs.Prelude.{◌≡◌, ◌≤◌, IfOk, length};
+ghost use Rattle.pg_group.specs.Entries.{Each};
+
+use crate::{assemble, run};
+use pg_base::{OpenGate, OutOfMemory, RankNo, Ranks};
+use pg_group::{Program, Roll};
+use pg_lane::ArrayLanes;
+use std::alloc::Global;
+use std::test::Fail;
+
+type Lanes = ArrayLanes<HostRuntime>;
+
+// The rolls of all ranks of a group, for this many rounds.
+fn rolls(alloc: Global, ranks: Ranks, rounds: u32) -> Result<Vec<Roll>, OutOfMemory>
+    requires { 1 ≤ rounds }
+    ensures count { IfOk result (λ rolls. length rolls.items ≡ ranks) }
+    ensures new { IfOk result (λ rolls. Each (λ rank p. ⟦<Roll as Program>⟧.IsNew p) rolls.items) }
+    ensures own { IfOk result (λ rolls. Each (λ rank p. ⟦<Roll as Program>⟧.own p ≡ rank) rolls.items) }
+    ensures size { IfOk result (λ rolls. Each (λ rank p. ⟦<Roll as Program>⟧.size p ≡ ranks) rolls.items) }
+{
+    let mut rolls = Vec::new(alloc);
+    for rank in 0..ranks.count() {
+        let roll = Roll::new(RankNo(rank), ranks, rounds);
+        let Ok(()) = rolls.push(roll) else {
+            return Err(OutOfMemory);
+        };
+    }
+    Ok(rolls)
+}
+
+#[test]
+fn each_rank_takes_what_the_two_others_send(rt: HostRuntime) -> Result<(), Fail> {
+    let ranks = Ranks::new(3).ok_or("no number of ranks")?;
+    let programs = rolls(rt.alloc(), ranks, 1)?;
+    let group = assemble::<Roll, Lanes>(&rt, rt.alloc(), programs, 1)?;
+    let finished = run(&rt, group, 1, &OpenGate);
+    assert_eq!(rt; finished.programs.len(), 3);
+    for program in &finished.programs {
+        assert_eq!(rt; program.taken(), 2);
+    }
+    assert_eq!(rt; finished.lanes.len(), 6);
+    for lane in &finished.lanes {
+        assert_eq!(rt; lane.pushed(), 2);
+        assert_eq!(rt; lane.left(), 0);
+    }
+    Ok(())
+}
+
+#[test]
+fn one_rank_runs_without_lanes(rt: HostRuntime) -> Result<(), Fail> {
+    let ranks = Ranks::new(1).ok_or("no number of ranks")?;
+    let programs = rolls(rt.alloc(), ranks, 3)?;
+    let group = assemble::<Roll, Lanes>(&rt, rt.alloc(), programs, 1)?;
+    let finished = run(&rt, group, 1, &OpenGate);
+    assert_eq!(rt; finished.programs.len(), 1);
+    assert_eq!(rt; finished.lanes.len(), 0);
+    Ok(())
+}
