@@ -1,14 +1,19 @@
 #!/usr/bin/env python3
-"""Runs `pbgl bfs` on two big files, beside the same job by a short C++ program over Boost.Graph.
+"""Runs `pbgl bfs` on two big files, beside the same job by a short C++ program over Boost.Graph, and `pg_bench`,
+which reads a file of the greatest size and divides its graph among ranks.
 
-    python3 bench/run.py [--vertices N] [--edges M] [--rounds K]
+    python3 bench/run.py [--only bfs|divide] [--vertices N] [--edges M] [--rounds K]
 
-The files have 1,000,000 vertices, one with 8,000,000 edges by a seeded rule and one in a row. For each
+bfs: the files have 1,000,000 vertices, one with 8,000,000 edges by a seeded rule and one in a row. For each
 program the least of three interleaved runs counts: seconds for the whole, megabytes of the file a second, peak
 memory. Both write one line a system call, to the null device. Boost.Graph is Debian's libboost-graph-dev;
 where it or g++ is missing that program is skipped. The outputs are compared once.
+
+divide: the file has 1,048,576 vertices and 8,388,608 edges by the seeded rule. For each number of ranks and each
+layout the least of three interleaved runs counts: milliseconds of reading and of dividing, peak memory, and the
+memory beside the edge list (12 bytes an edge) and the arcs (40 bytes an edge).
 """
-import argparse, os, subprocess, sys, tempfile, time
+import argparse, os, re, subprocess, sys, tempfile, time
 
 HERE = os.path.dirname(os.path.abspath(__file__))
 TOP = os.path.dirname(HERE)
@@ -22,15 +27,15 @@ def compiled(source, folder):
     return program if made.returncode == 0 else None
 
 
-def measured(words):
-    """Seconds and peak megabytes of one run."""
+def measured(words, wanted=0):
+    """Seconds and peak megabytes of one run, which ends with the status wanted."""
     with open(os.devnull, "wb") as sink:
         began = time.monotonic()
-        child = subprocess.Popen(words, stdout=sink)
+        child = subprocess.Popen(words, stdout=sink, stderr=sink if wanted else None)
         _, status, usage = os.wait4(child.pid, 0)
         seconds = time.monotonic() - began
-    if status != 0:
-        sys.exit("%s ended with %d" % (" ".join(words), status))
+    if os.waitstatus_to_exitcode(status) != wanted:
+        sys.exit("%s ended with %d" % (" ".join(words), os.waitstatus_to_exitcode(status)))
     return seconds, usage.ru_maxrss / 1024
 
 
@@ -49,28 +54,83 @@ def report(name, file, programs, rounds):
         print("%-8s ratio of pbgl to boost: %.2f" % (name, best["pbgl"][0] / best["boost"][0]))
 
 
+def built(crate):
+    """The program of this crate, proved and built where it isn't current."""
+    folder = os.path.join(TOP, "crates", crate)
+    subprocess.run(["rt", "run", "--"], cwd=folder, stdout=subprocess.DEVNULL, stderr=subprocess.DEVNULL)
+    program = os.path.join(folder, "out", crate)
+    if not os.path.exists(program):
+        sys.exit("%s could not be built: run `rt run` in %s" % (crate, folder))
+    return program
+
+
+def divided(words):
+    """Milliseconds of reading and of dividing, peak megabytes, and what the run printed."""
+    child = subprocess.Popen(words, stdout=subprocess.PIPE, stderr=subprocess.PIPE, text=True)
+    times, counts = child.stderr.read(), child.stdout.read()
+    _, status, usage = os.wait4(child.pid, 0)
+    if status != 0:
+        sys.exit("%s ended with %d: %s" % (" ".join(words), status, times))
+    reading, dividing = re.findall(r"(\d+) ms", times)
+    return int(reading), int(dividing), usage.ru_maxrss * 1024 / 1e6, counts.strip()
+
+
+def report_divisions(file, edges, program, rounds):
+    best = {}
+    for _ in range(rounds):
+        for ranks in (1, 4, 32):
+            for layout in ("block", "random"):
+                reading, dividing, memory, counts = divided([program, file, str(ranks), layout])
+                was = best.get((ranks, layout), (reading, dividing))
+                best[ranks, layout] = min(reading, was[0]), min(dividing, was[1]), memory, counts
+    for (ranks, layout), (reading, dividing, memory, counts) in best.items():
+        print("%2d %-6s reading %5d ms, dividing %5d ms, %4.0f MB, %4.0f MB beside; %s"
+              % (ranks, layout, reading, dividing, memory, memory - 52e-6 * edges, counts))
+
+
+def made(make, folder, name, words):
+    """A graph file with this name."""
+    file = os.path.join(folder, name + ".graph")
+    with open(file, "wb") as handle:
+        subprocess.run([make] + words, stdout=handle, check=True)
+    return file
+
+
+def searches(make, folder, given):
+    subprocess.run([os.path.join(TOP, "bin", "pbgl"), "bfs", os.path.join(TOP, "examples", "mesh.graph"),
+                    "--source", "1"], stdout=subprocess.DEVNULL, check=True)
+    pbgl = os.path.join(TOP, "crates", "pbgl", "out", "pbgl")
+    boost = compiled("bfs_boost.cpp", folder)
+    kinds = {"random": ["random", str(given.vertices), str(given.edges), "1"], "path": ["path", str(given.vertices)]}
+    for name, words in kinds.items():
+        file = made(make, folder, name, words)
+        programs = {"pbgl": [pbgl, "bfs", file, "--source", "1"]}
+        if boost is not None:
+            programs["boost"] = [boost, file, "1"]
+        report(name, file, programs, given.rounds)
+
+
+def divisions(make, folder, given):
+    vertices, edges = 1 << 20, 1 << 23
+    file = made(make, folder, "greatest", ["random", str(vertices), str(edges), "1"])
+    report_divisions(file, edges, built("pg_bench"), given.rounds)
+
+
 def main():
     parser = argparse.ArgumentParser(description=__doc__, formatter_class=argparse.RawDescriptionHelpFormatter)
     parser.add_argument("--vertices", type=int, default=1_000_000)
     parser.add_argument("--edges", type=int, default=8_000_000)
     parser.add_argument("--rounds", type=int, default=3)
+    parser.add_argument("--only", choices=["bfs", "divide"])
     given = parser.parse_args()
-    subprocess.run([os.path.join(TOP, "bin", "pbgl"), "bfs", os.path.join(TOP, "examples", "mesh.graph"),
-                    "--source", "1"], stdout=subprocess.DEVNULL, check=True)
-    pbgl = os.path.join(TOP, "crates", "pbgl", "out", "pbgl")
     with tempfile.TemporaryDirectory() as folder:
-        make, boost = compiled("make_graph.cpp", folder), compiled("bfs_boost.cpp", folder)
+        make = compiled("make_graph.cpp", folder)
         if make is None:
             sys.exit("g++ is missing: no file to measure on")
-        kinds = {"random": ["random", str(given.vertices), str(given.edges), "1"], "path": ["path", str(given.vertices)]}
-        for name, words in kinds.items():
-            file = os.path.join(folder, name + ".graph")
-            with open(file, "wb") as handle:
-                subprocess.run([make] + words, stdout=handle, check=True)
-            programs = {"pbgl": [pbgl, "bfs", file, "--source", "1"]}
-            if boost is not None:
-                programs["boost"] = [boost, file, "1"]
-            report(name, file, programs, given.rounds)
+        if given.only != "divide":
+            searches(make, folder, given)
+        if given.only != "bfs":
+            divisions(make, folder, given)
 
 
 if __name__ == "__main__":

@@ -1,6 +1,9 @@
-mod TwoEnds
+mod Passes
+mod ByNumber
+mod UpAndDown
 mod RowsMore
 mod HoldersMore
 mod Laws
+mod Ascending
 mod PartsOf
 mod Directed

@@ -18,6 +18,7 @@ use Rattle.pg_adj.specs.Holdings.{holdings, holdings_of}
 use Rattle.pg_adj.specs.Division.{Sharing, AreRows, IsShare, IsPartOf, arc_at, arcs_at, other_end, no_edge, leads_abroad, vertices_to, ghost_of, ghosts_of, undivided}
 use Rattle.std.specs.List.{AllPairs}
 use Rattle.pg_adj.proofs.Directed.{directed, ascending}
+use Rattle.pg_adj.proofs.Ascending.{vertices_to-within, ghosts_ascend, holders_ascend}
 use Rattle.pg_adj.specs.Shares.{ghost_lists, IsShareOf, AreGhostLists}
 use Rattle.pg_base.proofs.KeyedRows.{items_of-append}
 use Rattle.pg_adj.proofs.Laws.{Laws, count-le, own_within, all_from_rows, end_within, all_arcs_at, homes_known, rows_same}
@@ -25,12 +26,6 @@ use Rattle.pg_adj.proofs.Laws.{Laws, count-le, own_within, all_from_rows, end_wi
 length-vertices_to : (n : ℕ) → length (vertices_to n) ≡ n
 length-vertices_to zero = refl
 length-vertices_to (suc n) = let h = length-vertices_to n in omega (arith, length_push (vertices_to n) (n + 1))
-
-vertices_to-within : (n : ℕ) → All (IsVertex n) (vertices_to n)
-vertices_to-within zero = All-nil (IsVertex zero)
-vertices_to-within (suc n) = All-push (IsVertex (suc n)) (vertices_to n) (n + 1)
-    (All-weaker (IsVertex n) (IsVertex (suc n)) (λ v h. record { first = h.first; last = omega (arith, h.last) }) (vertices_to n) (vertices_to-within n))
-    (record { first = omega arith; last = omega arith })
 
 -- What is so of a ghost of the rank r.
 pub record IsGhostOf (s : Sharing) (r : ℕ) (g : Ghost) : Type 0 where
@@ -87,6 +82,14 @@ list_facts s edges shares r d e h l =
     let x : Share = get_or shares r e in
     let facts = share_ghosts s edges r x.vertices.items x.rows.bounds.items x.rows.arcs.items x.ghosts.items is in
     subst (λ (gs : List Ghost). (All (IsGhostOf s r) gs) × (length gs ≤ s.n)) (sym (get_or-map (λ (x : Share). x.ghosts.items) shares r e d l)) facts
+
+list_ascends : (s : Sharing) (edges : List Edge) (shares : List Share) (r : ℕ) (d : List Ghost) (e : Share) → AreSharesOf s edges shares → r < length shares
+    → AllPairs (λ g h. g.vertex.0 < h.vertex.0) (get_or (ghost_lists shares) r d)
+list_ascends s edges shares r d e h l =
+    let is : IsShareOf s edges r (get_or shares r e) = h.share r e (omega (arith, h.each)) in
+    let x : Share = get_or shares r e in
+    subst (λ (gs : List Ghost). AllPairs (λ g h. g.vertex.0 < h.vertex.0) gs) (sym (get_or-map (λ (x : Share). x.ghosts.items) shares r e d l ∙ is.ghost_list))
+    (ghosts_ascend s.owner s.local s.n r x.rows.arcs.items)
 
 first_share : (shares : List Share) (r : ℕ) → r < length shares → Share
 first_share [] r l = absurd (omega arith)
@@ -171,6 +174,11 @@ portion_ok s laws g graph same shares are r rank p h =
       bounds = h.share.row.bounded;
       arcs = all_from_rows (IsOwnArc p) (λ i. arcs_at s g.edges (get_or p.vertices i 0)) (length p.vertices) p.bounds p.arcs h.share.row
           (λ i l. all_arcs_at (IsOwnArc p) s g.edges (get_or p.vertices i 0) (arc_ok s laws g graph same r rank p h.rank h.ranks h.n h.share (get_or p.vertices i 0)));
+      ascend = h.ascend;
+      ghosts_ascend = subst (λ (gs : List Ghost). AllPairs (λ g h. g.vertex.0 < h.vertex.0) gs) (sym h.share.ghost_list) (ghosts_ascend s.owner s.local s.n r p.arcs);
+      holders_ascend = λ i l. subst (λ (hs : List Holder). AllPairs (λ a b. a.rank.0 < b.rank.0) hs) (sym (h.holders.row i l))
+          (holders_ascend 0 (ghost_lists shares) (get_or p.vertices i 0)
+          (λ k d m. let m' : k < length shares = omega arith in list_ascends s g.edges shares k d (first_share shares k m') are m'));
       ghosts = All-weaker (IsGhostOf s r) (λ x. IsForeign p x.home.0) (λ x f.
           let owner = laws.owner_is_rank x.vertex.0 f.vertex.first f.vertex.last in
           record { below = omega (arith, f.home, h.ranks); other = λ e. f.abroad (sym f.home ∙ (e ∙ h.rank)) }) p.ghosts ghosts;

@@ -1,5 +1,5 @@
-ghost use Rattle.std.specs.Prelude.{◌≡◌, ◌≢◌, ◌<◌, ◌≤◌, All, length, slice_index};
-ghost use Rattle.pg_adj.specs.Portions.{IsOwnArc, IsForeign, IsPortion};
+ghost use Rattle.std.specs.Prelude.{◌≡◌, ◌≢◌, ◌<◌, ◌≤◌, All, AllPairs, length, slice_index};
+ghost use Rattle.pg_adj.specs.Portions.{IsOwnArc, IsForeign, IsVertex, IsPortion};
 ghost use Rattle.pg_base.specs.Keyed.{row_of};
 
 use crate::holders::HolderRows;
@@ -142,6 +142,7 @@ impl Part {
         requires { i < length self.now.vertices }
         ensures row { result.now ≡ row_of self.now.bounds self.now.arcs i }
         ensures own { All (IsOwnArc self.now) result.now }
+        ensures ascend { AllPairs (λ a b. a.to.0 < b.to.0) result.now }
     {
         let begin = self.bounds[i as usize];
         let end = self.bounds[i as usize + 1];
@@ -152,6 +153,8 @@ impl Part {
     pub fn ghosts(&self) -> &[Ghost]
         ensures value { result.now ≡ self.now.ghosts }
         ensures foreign { All (λ g. IsForeign self.now g.home.0) result.now }
+        ensures vertices { All (λ g. IsVertex self.now.n g.vertex.0) result.now }
+        ensures ascend { AllPairs (λ g h. g.vertex.0 < h.vertex.0) result.now }
     {
         &self.ghosts
     }
@@ -161,6 +164,7 @@ impl Part {
         requires { i < length self.now.vertices }
         ensures row { result.now ≡ row_of self.now.holder_bounds self.now.holders i }
         ensures foreign { All (λ h. IsForeign self.now h.rank.0) result.now }
+        ensures ascend { AllPairs (λ a b. a.rank.0 < b.rank.0) result.now }
     {
         let begin = self.holder_bounds[i as usize];
         let end = self.holder_bounds[i as usize + 1];

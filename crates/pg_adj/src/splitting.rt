@@ -15,7 +15,8 @@ use std::alloc::{AllocError, Global};
 
 /// Divides `graph` as `dist` says: one part for each rank, in order. Each edge gives two arcs, each at the
 /// owner of the vertex from which it leads. Takes time linear in the graph, but for one pass over all
-/// vertices for each rank; `OutOfMemory` comes only where memory is wanting.
+/// vertices for each rank, and one over all edges for each 150,000 vertices; memory by exact size.
+/// `OutOfMemory` comes only where memory is wanting.
 pub fn split<D: Distribution>(
     alloc: Global,
     graph: &EdgeList,

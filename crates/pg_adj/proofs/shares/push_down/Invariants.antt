@@ -1,6 +1,6 @@
 use Rattle.std.proofs.Common.{◌≡◌, ◌++◌, map, take}
 use Rattle.pg_adj.specs.Division.{arc_at}
-use Rattle.pg_adj.proofs.shares.push_row.Given as goal
+use Rattle.pg_adj.proofs.shares.push_down.Given as goal
 
 abbrev pub invariant-loop-index : goal.invariant-loop-index
 invariant-loop-index g l = l.arcs.items ≡ l.fn.arcs.items

@@ -1,0 +1,8 @@
+use Rattle.std.proofs.Common.{◌≡◌, length, map}
+use Rattle.std.specs.List.{sum_by, range_with_len}
+use Rattle.pg_base.specs.Keyed.{row_of}
+use Rattle.pg_bench.specs.Counts.{capped}
+use Rattle.pg_bench.proofs.totals.holder_count.Given as goal
+
+abbrev pub invariant-loop-i : goal.invariant-loop-i
+invariant-loop-i l = l.count ≡ capped (sum_by length (map (row_of l.part.holder_bounds l.part.holders) (range_with_len 0 l.i)))

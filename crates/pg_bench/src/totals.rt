@@ -1,0 +1,56 @@
+ghost use Rattle.std.specs.Prelude.{◌≡◌, length};
+ghost use Rattle.std.specs.List.{sum_by};
+ghost use Rattle.pg_bench.specs.Counts.{capped, arcs_in, holders_in};
+
+use pg_adj::Part;
+
+/// How much the ranks have together.
+#[derive(Clone, Copy, Debug, PartialEq, Eq)]
+pub struct Totals {
+    pub arcs: u64,
+    pub ghosts: u64,
+    pub holders: u64,
+}
+
+impl Totals {
+    /// How much these parts have together.
+    pub fn of_parts(parts: &[Part]) -> Totals
+        ensures arcs { result.arcs ≡ capped (sum_by arcs_in parts.now) }
+        ensures ghosts { result.ghosts ≡ capped (sum_by (λ p. length p.ghosts) parts.now) }
+        ensures holders { result.holders ≡ capped (sum_by holders_in parts.now) }
+    {
+        let mut totals = Totals {
+            arcs: 0,
+            ghosts: 0,
+            holders: 0,
+        };
+        for part in parts {
+            totals.arcs = totals.arcs.saturating_add(arc_count(part));
+            totals.ghosts = totals.ghosts.saturating_add(part.ghosts().len() as u64);
+            totals.holders = totals.holders.saturating_add(holder_count(part));
+        }
+        totals
+    }
+}
+
+// How many arcs the places of a part have.
+fn arc_count(part: &Part) -> u64
+    ensures { result ≡ capped (arcs_in part.now) }
+{
+    let mut count = 0u64;
+    for i in 0..part.count() {
+        count = count.saturating_add(part.arcs(i).len() as u64);
+    }
+    count
+}
+
+// How many holders the places of a part have.
+fn holder_count(part: &Part) -> u64
+    ensures { result ≡ capped (holders_in part.now) }
+{
+    let mut count = 0u64;
+    for i in 0..part.count() {
+        count = count.saturating_add(part.holders(i).len() as u64);
+    }
+    count
+}
