@@ -7,3 +7,4 @@ pub mod Driven
 pub mod Book
 pub mod Room
 pub mod Pairs
+pub mod Lending

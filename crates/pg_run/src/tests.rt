@@ -2,7 +2,7 @@
 ghost use Rattle.std.specs.Prelude.{◌≡◌, ◌≤◌, IfOk, length};
 ghost use Rattle.pg_group.specs.Entries.{Each};
 
-use crate::{assemble, run};
+use crate::{Turn, assemble, drive, run};
 use pg_base::{OpenGate, OutOfMemory, RankNo, Ranks};
 use pg_group::{Program, Roll};
 use pg_lane::ArrayLanes;
@@ -55,5 +55,21 @@ fn one_rank_runs_without_lanes(rt: HostRuntime) -> Result<(), Fail> {
     let finished = run(&rt, group, 1, &OpenGate);
     assert_eq!(rt; finished.programs.len(), 1);
     assert_eq!(rt; finished.lanes.len(), 0);
+    Ok(())
+}
+
+#[test]
+fn a_machine_waits_while_its_lane_is_full(rt: HostRuntime) -> Result<(), Fail> {
+    let ranks = Ranks::new(2).ok_or("no number of ranks")?;
+    let programs = rolls(rt.alloc(), ranks, 1)?;
+    let mut group = assemble::<Roll, Lanes>(&rt, rt.alloc(), programs, 1)?;
+    let first = group.machines().first_mut().ok_or("no machine")?;
+    assert_eq!(rt; first.next_turn(), 1);
+    assert_eq!(rt; first.turn(), Turn::Moved);
+    assert_eq!(rt; first.turn(), Turn::Waiting);
+    assert_eq!(rt; first.next_turn(), 3);
+    drive(&rt, group.machines(), &OpenGate);
+    let first = group.machines().first_mut().ok_or("no machine")?;
+    assert_eq!(rt; first.turn(), Turn::Done);
     Ok(())
 }
