@@ -1,6 +1,6 @@
 use crate::layouts::Layout;
 use pg_base::Ranks;
-use pg_metis::number;
+use pg_text::number;
 
 /// What the words of the command line ask for.
 #[derive(Clone, Copy, Debug)]
@@ -19,7 +19,8 @@ impl<'a> Job<'a> {
         if words.len() != 3 {
             return None;
         }
-        let ranks = Ranks::new(number(words[1].as_bytes())?)?;
+        let count = u32::try_from(number(words[1].as_bytes())?).ok()?;
+        let ranks = Ranks::new(count)?;
         let layout = Layout::named(words[2].as_str())?;
         Some(Job {
             file: words[0].as_str(),
