@@ -1,5 +1,5 @@
 -- Ghosts ascend by vertex, and the holders of a vertex by rank.
-use Rattle.std.proofs.Common.{◌≡◌, ℕ, ◌+◌, ◌<◌, ◌≤◌, List, [], ◌∷◌, ◌++◌, length, get_or, map, filter, All, sym, ap, subst, refl, ◌∙◌, inl, inr, arith, zero, suc}
+use Rattle.std.proofs.Common.{◌≡◌, ℕ, ◌+◌, ◌<◌, ◌≤◌, List, [], ◌∷◌, ◌++◌, length, get_or, filter, All, sym, ap, subst, refl, inl, inr, arith, zero, suc}
 use Rattle.std.specs.List.{AllPairs}
 use Rattle.std.proofs.lemmas.Bool.{cases_eq, eq-eqb, ne_eqb}
 use Rattle.std.proofs.lemmas.List.{get_or-map, length-map}
@@ -47,7 +47,7 @@ AllPairs-append R (x ∷ xs) ys first second across =
     (λ i j d l m. across (suc i) j d (omega arith) m))
 
 -- no ghost past a vertex is held for it
-none_past : (rank slot : ℕ) (ghosts : List Ghost) (v : ℕ) → All (λ g. v < g.vertex.0) ghosts → items_of (holdings_of rank slot ghosts) v ≡ []
+pub none_past : (rank slot : ℕ) (ghosts : List Ghost) (v : ℕ) → All (λ g. v < g.vertex.0) ghosts → items_of (holdings_of rank slot ghosts) v ≡ []
 none_past rank slot [] v later = refl
 none_past rank slot (g ∷ ghosts) v later =
     let own = All-head (λ (g : Ghost). v < g.vertex.0) g ghosts later in

@@ -22,6 +22,7 @@ pub record Laws (s : Sharing) : Type 0 where
   pub global_first : (r i : ℕ) → r < s.ranks → i < s.count r → 1 ≤ s.global r i
   pub global_last : (r i : ℕ) → r < s.ranks → i < s.count r → s.global r i ≤ s.n
   pub owner_of_global : (r i : ℕ) → r < s.ranks → i < s.count r → s.owner (s.global r i) ≡ r
+  pub local_of_global : (r i : ℕ) → r < s.ranks → i < s.count r → s.local (s.global r i) ≡ i
   pub global_ascends : (r i j : ℕ) → r < s.ranks → i < j → j < s.count r → s.global r i < s.global r j
 
 -- a rank's vertices ascend from 1 on
@@ -83,12 +84,12 @@ all_arcs_at P s edges v h =
     All-map P (arc_at s.owner s.local edges v) (items_of (incidences 0 edges) v)
     (All-weaker (λ k. k < length edges) (λ k. P (arc_at s.owner s.local edges v k)) h (items_of (incidences 0 edges) v) (row-within edges v (items_of (incidences 0 edges) v) refl))
 
-pub ends_within : (s : Sharing) (edges : List Edge) (vertices bounds : List ℕ) (arcs lent : List Arc) → All (IsEdge s.n) edges
-    → AreRows (λ i. arcs_at s edges (get_or vertices i 0)) (length vertices) bounds arcs → lent ≡ arcs → All (λ a. IsVertex s.n a.to.0) lent
-ends_within s edges vertices bounds arcs lent within rows same =
-    subst (λ (xs : List Arc). All (λ a. IsVertex s.n a.to.0) xs) (sym same)
-    (all_from_rows (λ a. IsVertex s.n a.to.0) (λ i. arcs_at s edges (get_or vertices i 0)) (length vertices) bounds arcs rows
-    (λ i l. all_arcs_at (λ a. IsVertex s.n a.to.0) s edges (get_or vertices i 0) (λ k m. end_within s.n (get_or edges k no_edge) (get_or vertices i 0) (within k no_edge m))))
+-- where arcs at vertices lead to
+pub ends_within : (s : Sharing) (edges : List Edge) (vertex : ℕ → ℕ) (count : ℕ) (bounds : List ℕ) (arcs : List Arc) → All (IsEdge s.n) edges
+    → AreRows (λ i. arcs_at s edges (vertex i)) count bounds arcs → All (λ a. IsVertex s.n a.to.0) arcs
+ends_within s edges vertex count bounds arcs within rows =
+    all_from_rows (λ a. IsVertex s.n a.to.0) (λ i. arcs_at s edges (vertex i)) count bounds arcs rows
+    (λ i l. all_arcs_at (λ a. IsVertex s.n a.to.0) s edges (vertex i) (λ k m. end_within s.n (get_or edges k no_edge) (vertex i) (within k no_edge m)))
 
 -- one more in a list of which each has its fact
 pub each_push : {X : Type 0} (Q : ℕ → X → Type 0) (xs ys : List X) (x : X) (n : ℕ) → length xs ≡ n → ((r : ℕ) (d : X) → r < n → Q r (get_or xs r d)) → Q n x → ys ≡ xs ++ x ∷ []

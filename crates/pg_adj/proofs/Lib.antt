@@ -1,5 +1,3 @@
-mod Passes
-mod ByNumber
 mod UpAndDown
 mod RowsMore
 mod HoldersMore
@@ -7,3 +5,12 @@ mod Laws
 mod Ascending
 mod PartsOf
 mod Directed
+mod Taking
+mod Indexed
+mod Grouped
+mod Chunks
+mod Degrees
+mod SizedRows
+mod Starts
+mod SharesOf
+mod Merging

@@ -1,10 +1,10 @@
 -- Every part of a division meets what is so of every portion.
 use Rattle.std.proofs.Common.{◌≡◌, ◌≢◌, ℕ, ◌+◌, ◌-◌, ◌<◌, ◌≤◌, true, eqb, not, ◌&&◌, List, [], ◌∷◌, ◌++◌, length, get_or, map, filter, All, sym, ap, subst, refl, ◌∙◌, inl, inr, arith, zero, suc}
 use Rattle.std.proofs.lemmas.Bool.{cases_eq, eq-eqb, ne_eqb}
-use Rattle.std.proofs.lemmas.List.{length_push, length-map, get_or_at, length-append, get_or-map}
+use Rattle.std.proofs.lemmas.List.{length_push, length-map, get_or_at, get_or_default, length-append, get_or-map}
 use Rattle.std.proofs.lemmas.List.Sums.{length-filter, count_by-le-length}
 use Rattle.std.proofs.lemmas.List.Folds.{Any-from_list_any}
-use Rattle.std.proofs.lemmas.List.Elements.{All-nil, All-cons, All-append, All-map, All-push, All-weaker, All-filter, All-head, All-tail, filter_passes}
+use Rattle.std.proofs.lemmas.List.Elements.{All-nil, All-cons, All-append, All-map, All-weaker, All-filter, All-head, All-tail, filter_passes}
 use Rattle.pg_base.specs.declared.edges.Edge.{Edge}
 use Rattle.pg_base.specs.Graph.{Graph, IsEdge, IsGraph}
 use Rattle.pg_adj.specs.declared.arcs.Arc.{Arc}
@@ -103,6 +103,7 @@ lists_ok s laws edges shares n few same h =
       short = λ k d l. let l' : k < length shares = omega arith in (list_facts s edges shares k d (first_share shares k l') h l').1;
       vertices = λ k d l. let l' : k < length shares = omega arith in
           All-weaker (IsGhostOf s k) (λ g. IsVertex s.n g.vertex.0) (λ g f. f.vertex) (get_or (ghost_lists shares) k d) (list_facts s edges shares k d (first_share shares k l') h l').0;
+      ascend = λ k d l. let l' : k < length shares = omega arith in list_ascends s edges shares k d (first_share shares k l') h l';
     })
 
 -- a holder of v is a rank that doesn't own it
@@ -159,6 +160,23 @@ arc_ok s laws g graph same r rank p is_rank is_ranks is_n share v k l =
       edge = omega (arith, graph.size);
     }
 
+-- a rank's vertices ascend
+own_ascend : (s : Sharing) → Laws s → (r : ℕ) (vertices : List ℕ) → r < s.ranks → length vertices ≡ s.count r
+    → ((i : ℕ) → i < s.count r → get_or vertices i 0 ≡ s.global r i) → AllPairs (λ v w. v < w) vertices
+own_ascend s laws r vertices rank count each = λ i j d less l.
+    let l' : i < length vertices = omega arith in
+    let first : get_or vertices i d ≡ s.global r i = get_or_default vertices i d 0 l' ∙ each i (omega arith) in
+    let second : get_or vertices j d ≡ s.global r j = get_or_default vertices j d 0 l ∙ each j (omega arith) in
+    omega (arith, laws.global_ascends r i j rank less (omega arith))
+
+-- no vertex of another rank is one of them
+own_apart : (s : Sharing) → Laws s → (r : ℕ) (vertices : List ℕ) → r < s.ranks → length vertices ≡ s.count r
+    → ((i : ℕ) → i < s.count r → get_or vertices i 0 ≡ s.global r i) → (v : ℕ) → s.owner v ≢ r → All (λ w. w ≢ v) vertices
+own_apart s laws r vertices rank count each v abroad = λ i d l e.
+    let l' : i < s.count r = omega arith in
+    let same : get_or vertices i d ≡ s.global r i = get_or_default vertices i d 0 l ∙ each i l' in
+    abroad (ap s.owner (sym e ∙ same) ∙ laws.owner_of_global r i rank l')
+
 pub portion_ok : (s : Sharing) → Laws s → (g : Graph) → IsGraph g → g.n ≡ s.n → (shares : List Share) → AreSharesOf s g.edges shares → (r : ℕ) → r < s.ranks
     → (p : Portion) → IsPartOf s g (ghost_lists shares) r p → IsPortion p
 portion_ok s laws g graph same shares are r rank p h =
@@ -171,11 +189,13 @@ portion_ok s laws g graph same shares are r rank p h =
       n = omega (arith, h.n, graph.vertices);
       count = omega (arith, h.n);
       vertices = All-weaker (IsVertex s.n) (IsVertex p.n) (λ v f. record { first = f.first; last = omega (arith, f.last, h.n) }) p.vertices within;
+      vertices_ascend = own_ascend s laws r p.vertices rank h.share.count h.share.vertex;
       bounds = h.share.row.bounded;
       arcs = all_from_rows (IsOwnArc p) (λ i. arcs_at s g.edges (get_or p.vertices i 0)) (length p.vertices) p.bounds p.arcs h.share.row
           (λ i l. all_arcs_at (IsOwnArc p) s g.edges (get_or p.vertices i 0) (arc_ok s laws g graph same r rank p h.rank h.ranks h.n h.share (get_or p.vertices i 0)));
       ascend = h.ascend;
       ghosts_ascend = subst (λ (gs : List Ghost). AllPairs (λ g h. g.vertex.0 < h.vertex.0) gs) (sym h.share.ghost_list) (ghosts_ascend s.owner s.local s.n r p.arcs);
+      apart = All-weaker (IsGhostOf s r) (λ x. All (λ v. v ≢ x.vertex.0) p.vertices) (λ x f. own_apart s laws r p.vertices rank h.share.count h.share.vertex x.vertex.0 f.abroad) p.ghosts ghosts;
       holders_ascend = λ i l. subst (λ (hs : List Holder). AllPairs (λ a b. a.rank.0 < b.rank.0) hs) (sym (h.holders.row i l))
           (holders_ascend 0 (ghost_lists shares) (get_or p.vertices i 0)
           (λ k d m. let m' : k < length shares = omega arith in list_ascends s g.edges shares k d (first_share shares k m') are m'));
@@ -197,12 +217,12 @@ portion_ok s laws g graph same shares are r rank p h =
           subst (λ (q : ℕ). All (IsGhostOf s q) (get_or (ghost_lists shares) k d)) zero_and (list_facts s g.edges shares k d (first_share shares k m') are m').0)));
     }
 
--- the share that a loop over all of them is at
-pub current : (shares yielded rest rest' : List Share) (x : Share) → yielded ++ rest ≡ shares → rest ≡ x ∷ rest' → (length yielded < length shares) × (get_or shares (length yielded) x ≡ x)
-current shares yielded rest rest' x whole step =
-    let parts : yielded ++ x ∷ rest' ≡ shares = ap (λ (xs : List Share). yielded ++ xs) (sym step) ∙ whole in (
+-- what a loop over all of them is at
+pub current : {X : Type 0} (all yielded rest rest' : List X) (x : X) → yielded ++ rest ≡ all → rest ≡ x ∷ rest' → (length yielded < length all) × (get_or all (length yielded) x ≡ x)
+current {X} all yielded rest rest' x whole step =
+    let parts : yielded ++ x ∷ rest' ≡ all = ap (λ (xs : List X). yielded ++ xs) (sym step) ∙ whole in (
       omega (arith, ap length parts, length-append yielded (x ∷ rest')),
-      ap (λ (xs : List Share). get_or xs (length yielded) x) (sym parts) ∙ get_or_at yielded x rest' x (length yielded) refl,
+      ap (λ (xs : List X). get_or xs (length yielded) x) (sym parts) ∙ get_or_at yielded x rest' x (length yielded) refl,
     )
 
 -- a rank's share with the holders of its vertices is its part

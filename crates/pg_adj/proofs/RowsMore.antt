@@ -1,16 +1,13 @@
 -- One row more behind those that lie already.
-use Rattle.std.proofs.Common.{◌≡◌, ℕ, ◌+◌, ◌-◌, ◌<◌, ◌≤◌, List, [], ◌∷◌, ◌++◌, length, get_or, map, All, sym, ap, subst, ◌∙◌, inl, inr, arith}
-use Rattle.std.specs.List.{between, range_with_len}
-use Rattle.std.proofs.lemmas.List.FromFn.{map-range_with_len_more}
+use Rattle.std.proofs.Common.{◌≡◌, ℕ, ◌+◌, ◌<◌, ◌≤◌, List, [], ◌∷◌, ◌++◌, length, get_or, All, sym, ap, subst, ◌∙◌, inl, inr, arith}
+use Rattle.std.specs.List.{between}
 use Rattle.std.proofs.lemmas.Bool.{cases_lt, cases_eq, eq-eqb, ne_eqb}
-use Rattle.std.proofs.lemmas.List.{append_assoc, same_lists, length-append, length_push, get_or_append_left, get_or-append-add, get_or_push}
+use Rattle.std.proofs.lemmas.List.{same_lists, length-append, length_push, get_or_append_left, get_or-append-add, get_or_push}
 use Rattle.std.proofs.lemmas.List.Edits.{length-between, get_or-between}
 use Rattle.std.proofs.lemmas.List.Elements.{All-nil, All-cons, All-weaker}
 use Rattle.pg_base.specs.declared.edges.Edge.{Edge}
-use Rattle.pg_adj.specs.Portions.{IsVertex}
-use Rattle.pg_base.specs.Keyed.{row_of}
 use Rattle.pg_base.specs.Keyed.{items_of}
-use Rattle.pg_adj.specs.Incidence.{incidences, AreEdgesAt}
+use Rattle.pg_adj.specs.Incidence.{incidences}
 use Rattle.pg_adj.specs.Division.{AreRows}
 
 between_left : {X : Type 0} (xs ys : List X) (i j : ℕ) → j ≤ length xs → between i j (xs ++ ys) ≡ between i j xs
@@ -77,16 +74,6 @@ rows_more {X} rows i bounds bounds' items items' last more h same put size grown
     let put' : items' ≡ items ++ rows i = put ∙ ap (λ (xs : List X). items ++ xs) same in
     rw (grown, put') (rows_push rows i bounds items last h (size ∙ ap length put'))
 
--- one more of a range is appended
-pub range_more : {X : Type 0} (f : ℕ → X) (first i : ℕ) (old now now' : List X) (x : X) → first ≤ i → now ≡ old ++ map f (range_with_len first (i - first)) → now' ≡ now ++ x ∷ [] → x ≡ f i
-    → now' ≡ old ++ map f (range_with_len first (i + 1 - first))
-range_more {X} f first i old now now' x l is put same =
-    let size : i + 1 - first ≡ i - first + 1 = omega arith in
-    let more = map-range_with_len_more f first (i - first) i (omega arith) in
-    put ∙ (ap (λ (y : X). now ++ y ∷ []) same ∙ (ap (λ (xs : List X). xs ++ f i ∷ []) is
-    ∙ (append_assoc old (map f (range_with_len first (i - first))) (f i ∷ [])
-    ∙ ap (λ (xs : List X). old ++ xs) (sym more ∙ ap (λ (n : ℕ). map f (range_with_len first n)) (sym size)))))
-
 -- the edges at a vertex are edges of the list
 incidences-within : (k : ℕ) (edges : List Edge) (v : ℕ) → All (λ i. i < k + length edges) (items_of (incidences k edges) v)
 incidences-within k [] v = All-nil (λ i. i < k + 0)
@@ -106,18 +93,3 @@ incidences-within k (e ∷ edges) v =
 pub row-within : (edges : List Edge) (v : ℕ) (row : List ℕ) → row ≡ items_of (incidences 0 edges) v → All (λ i. i < length edges) row
 row-within edges v row h = subst (λ (xs : List ℕ). All (λ i. i < length edges) xs) (sym h)
     (All-weaker (λ i. i < 0 + length edges) (λ i. i < length edges) (λ i l. omega arith) (items_of (incidences 0 edges) v) (incidences-within 0 edges v))
-
--- those that are listed are edges of the list too
-pub down_within : (edges : List Edge) (n : ℕ) (down_bounds down_edges up_bounds lent lent' row : List ℕ) (v : ℕ) → AreEdgesAt edges n down_bounds down_edges up_bounds → IsVertex n v
-    → lent ≡ down_bounds → lent' ≡ down_edges → row ≡ row_of lent lent' (v - 1) → All (λ i. i < length edges) row
-down_within edges n down_bounds down_edges up_bounds lent lent' row v at is b i read = λ k d l.
-    let back : v - 1 + 1 ≡ v = omega (arith, is.first) in
-    let down : List ℕ = row_of down_bounds down_edges (v - 1) in
-    let ups : List ℕ = range_with_len (get_or up_bounds (v - 1) 0) (get_or up_bounds (v - 1 + 1) 0 - get_or up_bounds (v - 1) 0) in
-    let same : row ≡ down = read ∙ (ap (λ (xs : List ℕ). row_of xs lent' (v - 1)) b ∙ ap (λ (ys : List ℕ). row_of down_bounds ys (v - 1)) i) in
-    let whole = row-within edges (v - 1 + 1) (down ++ ups) (at.row (v - 1) (omega (arith, is.first, is.last))) in
-    let inside : k < length down = subst (λ (xs : List ℕ). k < length xs) same l in
-    let below = whole k d (omega (arith, length-append down ups)) in
-    let front = get_or_append_left down ups d k inside in
-    let own = ap (λ (xs : List ℕ). get_or xs k d) same in
-    omega arith

@@ -3,3 +3,5 @@ pub mod Incidence
 pub mod Division
 pub mod Holdings
 pub mod Shares
+pub mod Leaving
+pub mod Buckets

@@ -1,7 +1,7 @@
 -- What one rank holds of a divided graph, and what is so of every such portion.
 -- Source: Gregor and Lumsdaine, Lifting Sequential Graph Algorithms for Distributed-Memory Parallel
 -- Computation (OOPSLA 2005): distributed adjacency lists and ghost cells.
-use Rattle.std.specs.Prelude.{◌≡◌, ◌≢◌, ℕ, ◌+◌, ◌<◌, ◌≤◌, List, length, All, AllPairs, slice_index}
+use Rattle.std.specs.Prelude.{◌≡◌, ◌≢◌, ℕ, ◌<◌, ◌≤◌, List, length, All, AllPairs, slice_index}
 use Rattle.pg_base.specs.declared.TheConstants.{MAX_VERTICES, MAX_EDGES}
 use Rattle.pg_base.specs.Keyed.{AreBounds, row_of}
 use Rattle.pg_adj.specs.declared.arcs.Arc.{Arc}
@@ -40,19 +40,21 @@ pub record IsVertex (n : ℕ) (v : ℕ) : Type 0 where
   pub first : 1 ≤ v
   pub last : v ≤ n
 
--- Own vertices, arcs, ghosts and holders lie within the graph and the group. The arcs of a place ascend by
--- where they lead, the ghosts by vertex, and the holders of a place by rank.
+-- Own vertices, arcs, ghosts and holders lie within the graph and the group. Own vertices ascend, and so do the arcs of a
+-- place by where they lead, the ghosts by vertex, and the holders of a place by rank. No ghost is an own vertex.
 pub record IsPortion (p : Portion) : Type 0 where
   pub rank : p.rank < p.ranks
   pub n : p.n ≤ MAX_VERTICES
   pub count : length p.vertices ≤ p.n
   pub vertices : All (IsVertex p.n) p.vertices
+  pub vertices_ascend : AllPairs (λ v w. v < w) p.vertices
   pub bounds : AreBounds (length p.vertices) p.bounds (length p.arcs)
   pub arcs : All (IsOwnArc p) p.arcs
   pub ascend : (i : ℕ) → i < length p.vertices → AllPairs (λ a b. a.to.0 < b.to.0) (row_of p.bounds p.arcs i)
   pub ghosts : All (λ g. IsForeign p g.home.0) p.ghosts
   pub ghost_vertices : All (λ g. IsVertex p.n g.vertex.0) p.ghosts
   pub ghosts_ascend : AllPairs (λ g h. g.vertex.0 < h.vertex.0) p.ghosts
+  pub apart : All (λ g. All (λ v. v ≢ g.vertex.0) p.vertices) p.ghosts
   pub holder_bounds : AreBounds (length p.vertices) p.holder_bounds (length p.holders)
   pub holders : All (λ h. IsForeign p h.rank.0) p.holders
   pub holders_ascend : (i : ℕ) → i < length p.vertices → AllPairs (λ a b. a.rank.0 < b.rank.0) (row_of p.holder_bounds p.holders i)

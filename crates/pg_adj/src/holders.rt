@@ -1,19 +1,19 @@
-//! The ranks that hold each vertex as a ghost, in compressed rows, by a counting sort over the ghosts of all ranks.
+//! The ranks that hold each vertex as a ghost, in compressed rows: the ghosts of all ranks are merged by vertex.
 
-ghost use Rattle.std.specs.Prelude.{◌≡◌, ℕ, ◌+◌, ◌-◌, ◌*◌, ◌^◌, ◌<◌, ◌≤◌, ◌++◌, length, map, sum, All, IfOk, OnOk, slice_index};
+ghost use Rattle.std.specs.Prelude.{◌≡◌, ℕ, ◌+◌, ◌-◌, ◌<◌, ◌≤◌, [], ◌∷◌, ◌++◌, true, false, length, All, IfOk, OnOk, slice_index};
 ghost use Rattle.pg_base.specs.declared.TheConstants.{MAX_RANKS, MAX_VERTICES};
 ghost use Rattle.pg_adj.specs.Portions.{IsVertex};
-ghost use Rattle.pg_base.specs.Keyed.{AreBounds, row_of};
-ghost use Rattle.pg_base.specs.Keyed.{AreCounts, AreStarts, AreFilled, AreRowsByKey, items_of};
-ghost use Rattle.pg_adj.specs.Holdings.{holdings};
+ghost use Rattle.std.specs.List.{AllPairs};
+ghost use Rattle.pg_base.specs.Keyed.{AreBounds, AreRowsByKey, row_of, items_of};
+ghost use Rattle.pg_adj.specs.Holdings.{holdings, holdings_of, IsPassed, ArePassed};
 ghost use Rattle.pg_adj.specs.Division.{AreRows};
 ghost use Rattle.pg_adj.specs.Shares.{ghost_lists, AreGhostLists};
 
-use crate::Holder;
 use crate::rows::item_count;
 use crate::shares::Share;
+use crate::{Ghost, Holder};
 use pg_base::RankNo;
-use pg_base::rows::{place_item, row_at, sum_before};
+use pg_base::rows::row_at;
 use std::alloc::{AllocError, Global};
 
 /// The holders of each vertex, one vertex after another: those of the vertex v ascend from `bounds[v - 1]` to
@@ -24,19 +24,20 @@ pub struct Holdings {
     pub holders: Vec<Holder>,
 }
 
-/// The holders of every vertex, in time and memory linear in the vertices and the ghosts.
+/// The holders of every vertex, in time linear in the vertices, for each rank, and the ghosts.
 pub fn holdings_by_vertex(alloc: Global, n: u32, shares: &[Share]) -> Result<Holdings, AllocError>
     requires vertices { n ≤ MAX_VERTICES }
     requires ghosts { AreGhostLists n (ghost_lists shares.now) }
     ensures { IfOk result (λ rows. AreRowsByKey (holdings 0 (ghost_lists shares.now)) n rows.bounds.items rows.holders.items) }
 {
-    let size = ghost_count(shares);
-    let mut bounds = starts(alloc, n, shares)?;
-    let mut holders = vec![in alloc; Holder {
-        rank: RankNo(0),
-        slot: 0
-    }; size]?;
-    fill(shares, &mut bounds, &mut holders);
+    let mut passed = vec![in alloc; 0; shares.len()]?;
+    let mut holders = Vec::with_capacity(alloc, ghost_count(shares))?;
+    let mut bounds = Vec::with_capacity(alloc, n as usize + 1)?;
+    bounds.push(0)?;
+    for v in 1..n + 1 {
+        push_holders(v, shares, &mut passed, &mut holders)?;
+        bounds.push(holders.len() as u32)?;
+    }
     Ok(Holdings { bounds, holders })
 }
 
@@ -52,51 +53,43 @@ fn ghost_count(shares: &[Share]) -> usize
     count
 }
 
-// Where the holders of each vertex from 0 to n begin.
-fn starts(alloc: Global, n: u32, shares: &[Share]) -> Result<Vec<u32>, AllocError>
-    requires vertices { n ≤ MAX_VERTICES }
-    requires ghosts { AreGhostLists n (ghost_lists shares.now) }
-    ensures count { IfOk result (λ starts. length starts.items ≡ n + 1) }
-    ensures starts { IfOk result (λ starts. AreStarts (holdings 0 (ghost_lists shares.now))
-        (length (holdings 0 (ghost_lists shares.now))) starts.items) }
-{
-    let mut starts = counts(alloc, n, shares)?;
-    sum_before(&mut starts);
-    Ok(starts)
-}
-
-// How many holders each vertex from 0 to n has.
-fn counts(alloc: Global, n: u32, shares: &[Share]) -> Result<Vec<u32>, AllocError>
-    requires vertices { n ≤ MAX_VERTICES }
-    requires ghosts { AreGhostLists n (ghost_lists shares.now) }
-    ensures { IfOk result (λ counts. AreCounts n (holdings 0 (ghost_lists shares.now)) counts.items) }
-{
-    let mut counts = vec![in alloc; 0; n as usize + 1]?;
-    for share in shares {
-        for held in &share.ghosts {
-            counts[held.vertex.0 as usize] += 1;
-        }
-    }
-    Ok(counts)
-}
-
-// Puts each rank with each of its slots into the row of the vertex there.
-fn fill(shares: &[Share], bounds: &mut [u32], holders: &mut [Holder])
-    requires ghosts { AreGhostLists (length bounds.old - 1) (ghost_lists shares.now) }
-    requires vertices { length bounds.old ≤ MAX_VERTICES + 1 }
-    requires size { length holders.old < 2 ^ 32 }
-    requires starts { AreStarts (holdings 0 (ghost_lists shares.now)) (length holders.old) bounds.old }
-    ensures { AreFilled (holdings 0 (ghost_lists shares.now)) bounds.old bounds.new holders.new }
+// Appends the ranks that hold v as a ghost, where each rank has passed its ghosts before v, and passes v too.
+fn push_holders(
+    v: u32,
+    shares: &[Share],
+    passed: &mut [u32],
+    holders: &mut Vec<Holder>,
+) -> Result<(), AllocError>
+    requires ghosts { AreGhostLists MAX_VERTICES (ghost_lists shares.now) }
+    requires passed { ArePassed v (ghost_lists shares.now) passed.old }
+    ensures held { OnOk result (holders.new.items ≡ holders.old.items ++ items_of (holdings 0 (ghost_lists shares.now)) v) }
+    ensures few { OnOk result (length holders.new.items ≤ length holders.old.items + length shares.now) }
+    ensures passed { OnOk result (ArePassed (v + 1) (ghost_lists shares.now) passed.new) }
 {
     for (rank, share) in shares.iter().enumerate() {
-        for (slot, held) in share.ghosts.iter().enumerate() {
-            let holder = Holder {
+        let slot = passed[rank];
+        if is_next(&share.ghosts, slot, v) {
+            holders.push(Holder {
                 rank: RankNo(rank as u32),
-                slot: slot as u32,
-            };
-            place_item(held.vertex.0, holder, bounds, holders);
+                slot,
+            })?;
+            passed[rank] = slot + 1;
         }
     }
+    Ok(())
+}
+
+// Whether v is the ghost at this slot, behind those that are passed.
+fn is_next(ghosts: &[Ghost], slot: u32, v: u32) -> bool
+    requires ascend { AllPairs (λ g h. g.vertex.0 < h.vertex.0) ghosts.now }
+    requires passed { IsPassed v ghosts.now slot }
+    ensures held { result ≡ true → (rank : ℕ) → items_of (holdings_of rank 0 ghosts.now) v ≡ record { rank = record { 0 = rank }; slot = slot } ∷ [] }
+    ensures short { result ≡ true → slot < length ghosts.now }
+    ensures moved { result ≡ true → IsPassed (v + 1) ghosts.now (slot + 1) }
+    ensures absent { result ≡ false → (rank : ℕ) → items_of (holdings_of rank 0 ghosts.now) v ≡ [] }
+    ensures stays { result ≡ false → IsPassed (v + 1) ghosts.now slot }
+{
+    (slot as usize) < ghosts.len() && ghosts[slot as usize].vertex.0 == v
 }
 
 /// The holders of some vertices, in compressed rows.
@@ -123,21 +116,8 @@ pub fn holder_rows(
     let mut bounds = Vec::with_capacity(alloc, vertices.len() + 1)?;
     bounds.push(0)?;
     for v in vertices {
-        push_holders(
-            row_at(&holdings.bounds, &holdings.holders, *v),
-            &mut holders,
-        )?;
+        holders.extend_from_slice(row_at(&holdings.bounds, &holdings.holders, *v))?;
         bounds.push(holders.len())?;
     }
     Ok(HolderRows { bounds, holders })
-}
-
-// Appends the holders of a row.
-fn push_holders(row: &[Holder], holders: &mut Vec<Holder>) -> Result<(), AllocError>
-    ensures { OnOk result (holders.new.items ≡ holders.old.items ++ row.now) }
-{
-    for holder in row {
-        holders.push(*holder)?;
-    }
-    Ok(())
 }

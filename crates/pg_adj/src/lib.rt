@@ -3,11 +3,13 @@
 #![tactic(auto)]
 
 mod arcs;
+mod buckets;
+mod filling;
 mod holders;
-mod incidence;
 mod parts;
 mod rows;
 mod shares;
+mod sizing;
 mod splitting;
 #[cfg(test)]
 mod tests;

@@ -16,7 +16,7 @@ pub struct Part {
     ranks: Ranks,
     n: u32,
     vertices: Vec<u32>,
-    bounds: Vec<usize>,
+    bounds: Vec<u32>,
     arcs: Vec<Arc>,
     ghosts: Vec<Ghost>,
     holder_bounds: Vec<usize>,
@@ -120,9 +120,10 @@ impl Part {
         self.n
     }
 
-    /// How many vertices this rank owns.
+    /// How many vertices this rank owns. They ascend with their places.
     pub fn count(&self) -> u32
-        ensures { result ≡ length self.now.vertices }
+        ensures value { result ≡ length self.now.vertices }
+        ensures ascend { AllPairs (λ v w. v < w) self.now.vertices }
     {
         self.vertices.len() as u32
     }
@@ -146,15 +147,16 @@ impl Part {
     {
         let begin = self.bounds[i as usize];
         let end = self.bounds[i as usize + 1];
-        &self.arcs[begin..end]
+        &self.arcs[begin as usize..end as usize]
     }
 
-    /// The vertices of other ranks that an own vertex has an arc to, ascending, each once.
+    /// The vertices of other ranks that an own vertex has an arc to, ascending, each once. None of them is an own one.
     pub fn ghosts(&self) -> &[Ghost]
         ensures value { result.now ≡ self.now.ghosts }
         ensures foreign { All (λ g. IsForeign self.now g.home.0) result.now }
         ensures vertices { All (λ g. IsVertex self.now.n g.vertex.0) result.now }
         ensures ascend { AllPairs (λ g h. g.vertex.0 < h.vertex.0) result.now }
+        ensures apart { All (λ g. All (λ v. v ≢ g.vertex.0) self.now.vertices) result.now }
     {
         &self.ghosts
     }

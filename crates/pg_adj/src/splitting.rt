@@ -14,8 +14,8 @@ use pg_dist::Distribution;
 use std::alloc::{AllocError, Global};
 
 /// Divides `graph` as `dist` says: one part for each rank, in order. Each edge gives two arcs, each at the
-/// owner of the vertex from which it leads. Takes time linear in the graph, but for one pass over all
-/// vertices for each rank, and one over all edges for each 150,000 vertices; memory by exact size.
+/// owner of the vertex from which it leads. Takes time linear in the graph, but for passes over all
+/// vertices for each rank; memory by exact size, and 16 bytes for each of up to 2,097,152 edges at once.
 /// `OutOfMemory` comes only where memory is wanting.
 pub fn split<D: Distribution>(
     alloc: Global,

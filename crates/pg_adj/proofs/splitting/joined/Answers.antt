@@ -34,6 +34,7 @@ holder_rows-requires-clause-vertices g c =
       global_first = g.met.D.Distribution.global_first c.args.dist.now;
       global_last = g.met.D.Distribution.global_last c.args.dist.now;
       owner_of_global = g.met.D.Distribution.owner_of_global c.args.dist.now;
+      local_of_global = g.met.D.Distribution.local_of_global c.args.dist.now;
       global_ascends = g.met.D.Distribution.global_ascends c.args.dist.now;
     } in
     let steps = c.in-Some.ensures.steps.0 in
@@ -62,6 +63,7 @@ holder_rows-requires-clause-few g c =
       global_first = g.met.D.Distribution.global_first c.args.dist.now;
       global_last = g.met.D.Distribution.global_last c.args.dist.now;
       owner_of_global = g.met.D.Distribution.owner_of_global c.args.dist.now;
+      local_of_global = g.met.D.Distribution.local_of_global c.args.dist.now;
       global_ascends = g.met.D.Distribution.global_ascends c.args.dist.now;
     } in
     let steps = c.in-Some.ensures.steps.0 in
@@ -89,6 +91,7 @@ of_share-requires g c =
       global_first = g.met.D.Distribution.global_first c.args.dist.now;
       global_last = g.met.D.Distribution.global_last c.args.dist.now;
       owner_of_global = g.met.D.Distribution.owner_of_global c.args.dist.now;
+      local_of_global = g.met.D.Distribution.local_of_global c.args.dist.now;
       global_ascends = g.met.D.Distribution.global_ascends c.args.dist.now;
     } in
     let are : AreSharesOf s c.args.graph.now.edges c.args.shares.items = record { each = c.requires.count; share = c.requires.share } in
@@ -131,6 +134,7 @@ loop-share-preserved g c =
       global_first = g.met.D.Distribution.global_first c.args.dist.now;
       global_last = g.met.D.Distribution.global_last c.args.dist.now;
       owner_of_global = g.met.D.Distribution.owner_of_global c.args.dist.now;
+      local_of_global = g.met.D.Distribution.local_of_global c.args.dist.now;
       global_ascends = g.met.D.Distribution.global_ascends c.args.dist.now;
     } in
     let are : AreSharesOf s c.args.graph.now.edges c.args.shares.items = record { each = c.requires.count; share = c.requires.share } in

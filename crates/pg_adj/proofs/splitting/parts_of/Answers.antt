@@ -24,6 +24,7 @@ holdings_by_vertex-requires-clause-ghosts g c =
       global_first = g.met.D.Distribution.global_first c.args.dist.now;
       global_last = g.met.D.Distribution.global_last c.args.dist.now;
       owner_of_global = g.met.D.Distribution.owner_of_global c.args.dist.now;
+      local_of_global = g.met.D.Distribution.local_of_global c.args.dist.now;
       global_ascends = g.met.D.Distribution.global_ascends c.args.dist.now;
     } in
     let are : AreSharesOf s c.args.graph.now.edges c.in_ok-shares.shares.items = record { each = c.in_ok-shares.ensures.count; share = c.in_ok-shares.ensures.share } in
