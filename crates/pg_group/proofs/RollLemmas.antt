@@ -1,5 +1,5 @@
 -- What one more body does to the rounds of a list, and what the calls of a roll do to its lists.
-use Rattle.std.proofs.Common.{◌≡◌, ◌≢◌, ℕ, zero, suc, ◌+◌, ◌%◌, ◌^◌, ◌<◌, ◌≤◌, true, false, not, cond, List, [], ◌∷◌, ◌++◌, length, map, refl, sym, ap, ◌∙◌, subst, arith, ◌⊎◌, inl, inr, nat_lt, if◌then◌else◌}
+use Rattle.std.proofs.Common.{◌≡◌, ◌≢◌, ℕ, zero, suc, ◌+◌, ◌%◌, ◌^◌, ◌<◌, ◌≤◌, Bool, true, false, not, cond, List, [], ◌∷◌, ◌++◌, length, map, refl, sym, ap, ◌∙◌, subst, arith, ◌⊎◌, inl, inr, nat_lt, if◌then◌else◌}
 use Rattle.std.proofs.lemmas.Bool.{cases_lt, cases_eq}
 use Rattle.std.proofs.lemmas.List.Sums.{sum_by-cons, sum_by_push}
 use Rattle.std.specs.Prelude.{Option, slice_get}
@@ -209,3 +209,8 @@ voted-at (v ∷ vs) (suc own) round cast h e = voted-at vs own round cast (omega
 
 pub counted-more : (taken n more : ℕ) → taken ≡ n % 2 ^ 64 → more ≡ n + 1 → (taken + 1) % 2 ^ 64 ≡ more % 2 ^ 64
 counted-more taken n more e f = omega (arith, e, f)
+
+-- a roll with a rank to be sent its number is not idle
+pub still_busy : (idle : Bool) (own next to : ℕ) → (idle ≡ true → to < next) → Follows own next to → idle ≡ false
+still_busy false own next to all follows = refl
+still_busy true own next to all follows = absurd (omega (arith, all refl, from_next own next to follows))

@@ -1,14 +1,14 @@
 -- What the calls of a program answer, and what they add to the lists by rank.
 -- Source: Valiant, A bridging model for parallel computation (CACM 33(8), 1990).
-use Rattle.std.specs.Prelude.{◌≡◌, ℕ, zero, suc, Bool, true, false, ⊤, List, [], ◌∷◌, ◌++◌, map, replicate}
+use Rattle.std.specs.Prelude.{◌≡◌, ℕ, zero, suc, Bool, true, false, ⊤, ◌⊎◌, List, [], ◌∷◌, ◌++◌, map, replicate}
 use Rattle.pg_group.specs.declared.messages.Body.{Body}
-use Rattle.pg_group.specs.declared.messages.Body.TheVariants.{Mark}
+use Rattle.pg_group.specs.declared.messages.Body.TheVariants.{Item, Mark}
 use Rattle.pg_group.specs.declared.messages.Vote.{Vote}
 use Rattle.pg_group.specs.declared.programs.Worked.{Worked}
 use Rattle.pg_group.specs.declared.programs.Worked.TheVariants.{More, Idle, Blocked}
 use Rattle.pg_group.specs.declared.programs.Next.{Next}
 use Rattle.pg_group.specs.declared.programs.Next.TheVariants.{Again, Stop}
-use Rattle.pg_group.specs.Ranked.{flag_at}
+use Rattle.pg_group.specs.Ranked.{IsOther, append_at, flag_at}
 
 -- no mark of this round was sent to any rank
 abbrev pub AreUnmarked : List Bool → Type 0
@@ -42,6 +42,10 @@ module _ {B : Type 0} where
   -- an empty list for each rank
   abbrev pub nothing : ℕ → List (List (Body B))
   nothing size = replicate size []
+
+  -- the lists by rank are as before, or one item joined the list of one other rank
+  abbrev pub SentAtMostOne : ℕ → ℕ → List (List (Body B)) → List (List (Body B)) → Type 0
+  SentAtMostOne own size sent more = (more ≡ sent) ⊎ ((to : ℕ) × (item : B) × IsOther own size to × (more ≡ append_at sent to (Item item)))
 
   -- the lists by rank after this body joined each but the own one
   abbrev pub append_others : ℕ → Body B → List (List (Body B)) → List (List (Body B))

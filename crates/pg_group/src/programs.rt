@@ -3,7 +3,7 @@ ghost use Rattle.pg_group.specs.declared.messages.Body.{Body};
 ghost use Rattle.pg_group.specs.declared.messages.Body.TheVariants.{Item, Mark};
 ghost use Rattle.pg_group.specs.declared.messages.Vote.{Vote};
 ghost use Rattle.pg_group.specs.Ranked.{IsOther, append_at, flag_at};
-ghost use Rattle.pg_group.specs.Supersteps.{append_others, append_marks, nothing, OnMore, OnIdle, OnBlocked, OnAgain, OnStop, is_stop, AreUnmarked};
+ghost use Rattle.pg_group.specs.Supersteps.{append_others, append_marks, nothing, SentAtMostOne, OnMore, OnIdle, OnBlocked, OnAgain, OnStop, is_stop, AreUnmarked};
 
 use crate::{Outbox, Vote};
 use pg_base::{RankNo, Ranks};
@@ -63,8 +63,11 @@ pub trait Program: Send {
     /// From the opening state, by what was handled from each rank and sent to each rank, to the present state.
     ghost Keeps: { Self → List (List (Body Self.Body)) → List (List (Body Self.Body)) → Self → Type 0 };
 
-    /// One item was done between two states with what was sent before each.
+    /// One item was done: the state and the sent lists before, and both after it.
     ghost DidItem: { Self → List (List (Body Self.Body)) → Self → List (List (Body Self.Body)) → Type 0 };
+
+    /// No item was done between two states.
+    ghost DidNothing: { Self → Self → Type 0 };
 
     /// What each of its votes meets.
     ghost IsVote: { Vote → Type 0 };
@@ -78,6 +81,7 @@ pub trait Program: Send {
         ensures within { own self.now < size self.now }
         ensures first_round { IsNew self.now → round self.now ≡ 0 }
         ensures no_vote { IsNew self.now → cast self.now ≡ None }
+        ensures not_idle { IsNew self.now → idle self.now ≡ false }
         ensures not_ended { IsNew self.now → ended self.now ≡ false }
         ensures opening { IsNew self.now → Keeps self.now (nothing (size self.now)) (nothing (size self.now)) self.now };
 
@@ -94,6 +98,7 @@ pub trait Program: Send {
         ensures same_size { size self.new ≡ size self.old }
         ensures same_round { round self.new ≡ round self.old }
         ensures same_cast { cast self.new ≡ cast self.old }
+        ensures same_idle { idle self.new ≡ idle self.old }
         ensures same_ended { ended self.new ≡ ended self.old };
 
     /// Does one item, which sends at most one message; or none, where none is left or the lane was full.
@@ -105,12 +110,17 @@ pub trait Program: Send {
         ensures kept { (start : Self) (handled : List (List (Body Self.Body))) → Keeps start handled (O.sent out.old) self.old
             → Keeps start handled (O.sent out.new) self.new }
         ensures more { OnMore result (DidItem self.old (O.sent out.old) self.new (O.sent out.new)) }
+        ensures one { OnMore result (SentAtMostOne (own self.old) (size self.old) (O.sent out.old) (O.sent out.new)) }
+        ensures more_shows { OnMore result (idle self.new ≡ false) }
         ensures idle { OnIdle result (NothingLeft self.new) }
+        ensures idle_did { OnIdle result (DidNothing self.old self.new) }
         ensures idle_sends { OnIdle result (O.sent out.new ≡ O.sent out.old) }
         ensures idle_rests { OnIdle result (out.new ≡ out.old) }
         ensures idle_shows { OnIdle result (idle self.new ≡ true) }
         ensures blocked { OnBlocked result (λ to. IsOther (own self.old) (size self.old) to × O.saw_full out.old to out.new) }
+        ensures blocked_did { OnBlocked result (λ _. DidNothing self.old self.new) }
         ensures blocked_sends { OnBlocked result (λ _. O.sent out.new ≡ O.sent out.old) }
+        ensures blocked_shows { OnBlocked result (λ _. idle self.new ≡ false) }
         ensures same_own { own self.new ≡ own self.old }
         ensures same_size { size self.new ≡ size self.old }
         ensures same_round { round self.new ≡ round self.old }
@@ -132,6 +142,7 @@ pub trait Program: Send {
         ensures same_own { own self.new ≡ own self.old }
         ensures same_size { size self.new ≡ size self.old }
         ensures same_round { round self.new ≡ round self.old }
+        ensures same_idle { idle self.new ≡ idle self.old }
         ensures same_ended { ended self.new ≡ ended self.old };
 
     /// Ends the round with the votes of all ranks, by rank.
@@ -144,7 +155,9 @@ pub trait Program: Send {
         ensures stop { ended self.new ≡ is_stop result }
         ensures again { OnAgain result (round self.new ≡ round self.old + 1) }
         ensures uncast { OnAgain result (cast self.new ≡ None) }
+        ensures not_idle { OnAgain result (idle self.new ≡ false) }
         ensures last_round { OnStop result (round self.new ≡ round self.old) }
+        ensures last_vote { OnStop result (cast self.new ≡ cast self.old) }
         ensures same_own { own self.new ≡ own self.old }
         ensures same_size { size self.new ≡ size self.old };
 }

@@ -86,7 +86,7 @@ impl Program for Roll {
     ghost use Rattle.pg_group.specs.declared.messages.Body.{Body};
     ghost use Rattle.pg_group.specs.declared.rolls.Roll.{Roll};
     ghost use Rattle.pg_group.specs.Supersteps.{append_marks, is_stop, OnAgain, OnStop};
-    ghost use Rattle.pg_group.specs.Rolls.{IsNewRoll, HasRolled, SentOne, SentToAll, IsZeros};
+    ghost use Rattle.pg_group.specs.Rolls.{IsNewRoll, HasRolled, SentOne, DidNoItem, SentToAll, IsZeros};
 
     type Body = u32;
 
@@ -107,6 +107,8 @@ impl Program for Roll {
     ghost Keeps = { HasRolled };
 
     ghost DidItem = { λ roll sent after more_sent. SentOne roll sent more_sent };
+
+    ghost DidNothing = { DidNoItem };
 
     ghost IsVote = { IsZeros };
 
@@ -156,7 +158,9 @@ impl Program for Roll {
         ensures stop { self.new.ended ≡ is_stop result }
         ensures again { OnAgain result (self.new.round ≡ self.old.round + 1) }
         ensures uncast { OnAgain result (self.new.cast ≡ None) }
+        ensures not_idle { OnAgain result (self.new.idle ≡ false) }
         ensures last_round { OnStop result (self.new.round ≡ self.old.round) }
+        ensures last_vote { OnStop result (self.new.cast ≡ self.old.cast) }
         ensures same_own { self.new.rank.0 ≡ self.old.rank.0 }
         ensures same_size { self.new.ranks ≡ self.old.ranks }
     {

@@ -1,19 +1,19 @@
 -- How many marks the lists by rank have, and that a member who posts nothing leaves them.
-use Rattle.std.proofs.Common.{◌≡◌, ◌≢◌, ℕ, zero, suc, ◌+◌, ◌<◌, ◌≤◌, List, [], ◌∷◌, ◌++◌, length, map, replicate, refl, sym, ap, ◌∙◌, subst, arith, ◌⊎◌, inl, inr, length-append}
-use Rattle.std.specs.Prelude.{Option, Some, None}
+use Rattle.std.proofs.Common.{◌≡◌, ◌≢◌, ℕ, zero, suc, ◌+◌, ◌<◌, ◌≤◌, List, [], ◌∷◌, ◌++◌, length, map, refl, sym, ap, ◌∙◌, arith, inl, inr, length-append}
+use Rattle.std.specs.Prelude.{Option, Some}
 use Rattle.std.proofs.lemmas.Bool.{cases_lt, cases_eq}
 use Rattle.pg_group.specs.declared.messages.Body.{Body}
 use Rattle.pg_group.specs.declared.messages.Body.TheVariants.{Item, Mark}
 use Rattle.pg_group.specs.declared.messages.Vote.{Vote}
-use Rattle.pg_group.specs.Ranked.{IsOther, append_at, list_at}
+use Rattle.pg_group.specs.Ranked.{append_at, list_at}
 use Rattle.pg_group.specs.Rounds.{marks}
 use Rattle.pg_group.specs.Supersteps.{append_others, append_each, append_marks, nothing}
-use Rattle.pg_triggers.specs.Mine.{mine, mine_each, whole, post_all}
+use Rattle.pg_triggers.specs.Mine.{mine_each, whole, post_all}
 use Rattle.pg_triggers.specs.Paired.{AreMarked}
 use Rattle.pg_triggers.proofs.MineLemmas.{whole-posts}
 
 module _ {C : Type 0} where
-  marks-item : (bs : List (Body C)) (c : C) → marks (bs ++ Item c ∷ []) ≡ marks bs
+  pub marks-item : (bs : List (Body C)) (c : C) → marks (bs ++ Item c ∷ []) ≡ marks bs
   marks-item [] c = refl
   marks-item (Item y ∷ bs) c = marks-item bs c
   marks-item (Mark v ∷ bs) c = ap suc (marks-item bs c)
@@ -30,7 +30,7 @@ module _ {C : Type 0} where
   marks-append_at (l ∷ ls) (suc k) zero c = refl
   marks-append_at (l ∷ ls) (suc k) (suc rank) c = marks-append_at ls k rank c
 
-  length-append_at : (lists : List (List (Body C))) (k : ℕ) (b : Body C) → length (append_at lists k b) ≡ length lists
+  pub length-append_at : (lists : List (List (Body C))) (k : ℕ) (b : Body C) → length (append_at lists k b) ≡ length lists
   length-append_at [] k b = refl
   length-append_at (l ∷ ls) zero b = refl
   length-append_at (l ∷ ls) (suc k) b = ap suc (length-append_at ls k b)
@@ -165,22 +165,22 @@ mine-nothing item read k zero = refl
 mine-nothing item read k (suc n) = ap (λ ls. [] ∷ ls) (mine-nothing item read k n)
 
 -- how many bodies the lists have together
-size_of : {X : Type 0} → List (List (Body X)) → ℕ
+pub size_of : {X : Type 0} → List (List (Body X)) → ℕ
 size_of [] = 0
 size_of (l ∷ ls) = length l + size_of ls
 
-size_of-append : {X : Type 0} (lists : List (List (Body X))) (k : ℕ) (b : Body X) → k < length lists → size_of (append_at lists k b) ≡ size_of lists + 1
+pub size_of-append : {X : Type 0} (lists : List (List (Body X))) (k : ℕ) (b : Body X) → k < length lists → size_of (append_at lists k b) ≡ size_of lists + 1
 unfolding size_of
 size_of-append [] k b h = absurd (omega arith)
 size_of-append (l ∷ ls) zero b h = omega (arith, length-append l (b ∷ []))
 size_of-append (l ∷ ls) (suc k) b h = omega (arith, size_of-append ls k b (omega arith))
 
-append_past : {X : Type 0} (lists : List (List (Body X))) (k : ℕ) (b : Body X) → length lists ≤ k → append_at lists k b ≡ lists
+pub append_past : {X : Type 0} (lists : List (List (Body X))) (k : ℕ) (b : Body X) → length lists ≤ k → append_at lists k b ≡ lists
 append_past [] k b h = refl
 append_past (l ∷ ls) zero b h = absurd (omega arith)
 append_past (l ∷ ls) (suc k) b h = ap (λ xs. l ∷ xs) (append_past ls k b (omega arith))
 
-size_of-posts : {X : Type 0} (posts : List (ℕ × X)) (lists : List (List (Body X))) → size_of lists ≤ size_of (post_all (λ x. x) posts lists)
+pub size_of-posts : {X : Type 0} (posts : List (ℕ × X)) (lists : List (List (Body X))) → size_of lists ≤ size_of (post_all (λ x. x) posts lists)
 size_of-posts [] lists = omega arith
 size_of-posts (p ∷ ps) lists = elim (cases_lt p.0 (length lists)) [
   | inl low ↦ omega (arith, size_of-posts ps (append_at lists p.0 (Item p.1)), size_of-append lists p.0 (Item p.1) low)
@@ -189,7 +189,7 @@ size_of-posts (p ∷ ps) lists = elim (cases_lt p.0 (length lists)) [
 
 -- posts that add nothing to the member's lists add nothing to the pair's
 module _ {C X : Type 0} (wrap : X → C) where
-  nothing_posted : (posts : List (ℕ × X)) (lists : List (List (Body C))) (own_lists : List (List (Body X))) → length lists ≡ length own_lists
+  pub nothing_posted : (posts : List (ℕ × X)) (lists : List (List (Body C))) (own_lists : List (List (Body X))) → length lists ≡ length own_lists
       → size_of (post_all (λ x. x) posts own_lists) ≡ size_of own_lists → post_all wrap posts lists ≡ lists
   nothing_posted [] lists own_lists long same = refl
   nothing_posted (p ∷ ps) lists own_lists long same = elim (cases_lt p.0 (length own_lists)) [
@@ -201,7 +201,7 @@ module _ {C X : Type 0} (wrap : X → C) where
         ∙ nothing_posted ps lists own_lists long (ap (λ l. size_of (post_all (λ x. x) ps l)) (sym mine_same) ∙ same)
   ]
 
-  length_of_whole : (item : C → Option X) (read : Vote → Vote) (lists : List (List (Body C))) → length (whole item read lists) ≡ length lists
+  pub length_of_whole : (item : C → Option X) (read : Vote → Vote) (lists : List (List (Body C))) → length (whole item read lists) ≡ length lists
   length_of_whole item read [] = refl
   length_of_whole item read (l ∷ ls) = ap suc (length_of_whole item read ls)
 

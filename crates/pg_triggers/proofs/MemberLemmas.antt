@@ -1,16 +1,16 @@
 -- What each call does to what one member of a pair keeps.
-use Rattle.std.proofs.Common.{◌≡◌, ◌≢◌, ℕ, zero, suc, ◌+◌, ◌<◌, ◌≤◌, Bool, true, false, List, [], ◌∷◌, ◌++◌, length, map, refl, sym, ap, ◌∙◌, subst, arith, ◌⊎◌, inl, inr, ◌||◌}
+use Rattle.std.proofs.Common.{◌≡◌, ℕ, ◌+◌, ◌<◌, ◌≤◌, Bool, true, false, List, [], ◌∷◌, ◌++◌, length, map, refl, sym, ap, ◌∙◌, subst, arith, ◌⊎◌, inl, inr, ◌||◌}
 use Rattle.std.specs.Prelude.{Option, Some, None}
 use Rattle.pg_group.specs.declared.messages.Body.{Body}
 use Rattle.pg_group.specs.declared.messages.Body.TheVariants.{Item, Mark}
 use Rattle.pg_group.specs.declared.messages.Vote.{Vote}
-use Rattle.pg_group.specs.Ranked.{IsOther, append_at, list_at}
-use Rattle.pg_group.specs.Rounds.{is_mark, marks, ends_with_mark}
+use Rattle.pg_group.specs.Ranked.{append_at, list_at}
+use Rattle.pg_group.specs.Rounds.{is_mark, ends_with_mark}
 use Rattle.pg_group.specs.Supersteps.{append_others, append_marks}
-use Rattle.pg_triggers.specs.Mine.{mine, mine_each, whole, post_all}
+use Rattle.pg_triggers.specs.Mine.{mine, mine_each, whole}
 use Rattle.pg_triggers.specs.Paired.{AreMarked, AreClosed, MemberKeeps}
 use Rattle.pg_triggers.proofs.MineLemmas.{mine-mark, list_at-mine, each-enough, each-whole, each-some, each-none, open_others, late_others, open_marks, late_marks, OthersOpen, OthersLate}
-use Rattle.pg_triggers.proofs.MarkLemmas.{marked-posts, marked-round, marked-most, list_at-others}
+use Rattle.pg_triggers.proofs.MarkLemmas.{marked-round, marked-most, list_at-others}
 
 pub either : (b : Bool) → (b ≡ true) ⊎ (b ≡ false)
 either true = inl refl

@@ -1,3 +1,4 @@
+pub mod Endings
 pub mod Mine
 pub mod Paired
 pub mod Posts

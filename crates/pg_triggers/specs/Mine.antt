@@ -1,5 +1,5 @@
 -- What one member of a pair has of the pair's lists: its items, and its marks up to the round with which it ended.
-use Rattle.std.specs.Prelude.{◌≡◌, ℕ, zero, suc, ◌+◌, Option, Some, None, List, [], ◌∷◌, map}
+use Rattle.std.specs.Prelude.{ℕ, zero, suc, ◌+◌, Option, Some, None, List, [], ◌∷◌, map}
 use Rattle.pg_group.specs.declared.messages.Body.{Body}
 use Rattle.pg_group.specs.declared.messages.Body.TheVariants.{Item, Mark}
 use Rattle.pg_group.specs.declared.messages.Vote.{Vote}

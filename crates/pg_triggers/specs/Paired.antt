@@ -1,10 +1,10 @@
 -- What a pair keeps of a run: what each of its members keeps, of the member's own messages.
-use Rattle.std.specs.Prelude.{◌≡◌, ℕ, ◌+◌, ◌<◌, Bool, true, false, ◌&&◌, ◌||◌, if◌then◌else◌, max, Option, Some, None, List, [], length, map}
+use Rattle.std.specs.Prelude.{◌≡◌, ℕ, ◌+◌, ◌<◌, Bool, true, false, ◌&&◌, ◌||◌, if◌then◌else◌, max, Option, Some, None, List, length}
 use Rattle.pg_group.specs.declared.messages.Body.{Body}
 use Rattle.pg_group.specs.declared.messages.Vote.{Vote}
 use Rattle.pg_group.specs.Ranked.{IsOther, list_at}
 use Rattle.pg_group.specs.Rounds.{marks, ends_with_mark}
-use Rattle.pg_triggers.specs.Mine.{first_lists, second_lists}
+use Rattle.pg_triggers.specs.Mine.{first_item, second_item, first_vote, second_vote, first_lists, second_lists, whole}
 use Rattle.pg_triggers.specs.declared.items.Of2.{Of2}
 
 -- so many marks in the list of each other rank, and none in the own one
@@ -26,7 +26,7 @@ abbrev pub over : ℕ → Bool → ℕ
 over round passed = if passed then round + 1 else round
 
 -- One member of a pair: it keeps its promise over its own part of the lists, and it sent nothing after its last mark where it
--- has ended, or has voted in this round.
+-- has ended, or has voted in this round. A member that has ended did so in a round that is over.
 pub record MemberKeeps {X : Type 0} (Keeps : List (List (Body X)) → List (List (Body X)) → Type 0) (own size finished round : ℕ) (ended cast : Bool)
     (handled sent : List (List (Body X))) : Type 0 where
   pub keeps : Keeps handled sent
@@ -42,3 +42,17 @@ pub record BothKeep {A B : Type 0} (Keeps_first : List (List (Body A)) → List 
       (first_lists first_round handled) (first_lists first_round sent)
   pub second : MemberKeeps Keeps_second own size (over (max first_round second_round) (first_ended && second_ended)) second_round second_ended (is_cast vote)
       (second_lists second_round handled) (second_lists second_round sent)
+
+-- One member, which has not ended, did an item over its own part of the lists sent. The other one's part is the same.
+pub record MemberDid {C X Y : Type 0} (item : C → Option X) (read : Vote → Vote) (other_item : C → Option Y) (other_read : Vote → Vote)
+    (Did : List (List (Body X)) → List (List (Body X)) → Type 0) (ended : Bool) (sent more : List (List (Body C))) : Type 0 where
+  pub runs : ended ≡ false
+  pub did : Did (whole item read sent) (whole item read more)
+  pub other : whole other_item other_read more ≡ whole other_item other_read sent
+
+module _ {A B : Type 0} where
+  abbrev pub FirstDid : (List (List (Body A)) → List (List (Body A)) → Type 0) → Bool → List (List (Body (Of2 A B))) → List (List (Body (Of2 A B))) → Type 0
+  FirstDid = MemberDid first_item first_vote second_item second_vote
+
+  abbrev pub SecondDid : (List (List (Body B)) → List (List (Body B)) → Type 0) → Bool → List (List (Body (Of2 A B))) → List (List (Body (Of2 A B))) → Type 0
+  SecondDid = MemberDid second_item second_vote first_item first_vote

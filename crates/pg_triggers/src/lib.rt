@@ -2,9 +2,12 @@
 #![tactic(auto)]
 
 mod items;
+pub mod laws;
 mod members;
 mod outs;
 mod pairs;
+#[cfg(test)]
+mod tests;
 mod votes;
 
 pub use items::Of2;

@@ -2,7 +2,7 @@ ghost use Rattle.std.specs.Prelude.{◌≡◌, ℕ, ◌+◌, ◌<◌, Bool, true
 ghost use Rattle.pg_group.specs.declared.messages.Body.{Body};
 ghost use Rattle.pg_group.specs.declared.messages.Body.TheVariants.{Mark};
 ghost use Rattle.pg_group.specs.Ranked.{IsOther};
-ghost use Rattle.pg_group.specs.Supersteps.{append_others, append_marks, OnMore, OnIdle, OnBlocked, AreUnmarked};
+ghost use Rattle.pg_group.specs.Supersteps.{append_others, append_marks, SentAtMostOne, OnMore, OnIdle, OnBlocked, AreUnmarked};
 ghost use Rattle.pg_triggers.specs.Votes.{IsResting};
 
 use pg_group::{Narrow, Next, Outbox, Vote, Worked};
@@ -29,12 +29,19 @@ pub trait Member: Narrow {
         ensures rests { ended ≡ true → self.new ≡ self.old }
         ensures sends_none { ended ≡ true → O.sent out.new ≡ O.sent out.old }
         ensures more { OnMore result (Self.DidItem self.old (O.sent out.old) self.new (O.sent out.new)) }
+        ensures one { OnMore result (SentAtMostOne (Self.own self.old) (Self.size self.old) (O.sent out.old) (O.sent out.new)) }
+        ensures more_runs { OnMore result (ended ≡ false) }
+        ensures more_shows { OnMore result (Self.idle self.new ≡ false) }
         ensures idle { OnIdle result (ended ≡ false → Self.NothingLeft self.new) }
+        ensures idle_did { OnIdle result (ended ≡ false → Self.DidNothing self.old self.new) }
         ensures idle_sends { OnIdle result (O.sent out.new ≡ O.sent out.old) }
         ensures idle_rests { OnIdle result (out.new ≡ out.old) }
         ensures idle_shows { OnIdle result (ended ≡ false → Self.idle self.new ≡ true) }
         ensures blocked { OnBlocked result (λ to. IsOther (Self.own self.old) (Self.size self.old) to × O.saw_full out.old to out.new) }
+        ensures blocked_runs { OnBlocked result (λ _. ended ≡ false) }
+        ensures blocked_did { OnBlocked result (λ _. Self.DidNothing self.old self.new) }
         ensures blocked_sends { OnBlocked result (λ _. O.sent out.new ≡ O.sent out.old) }
+        ensures blocked_shows { OnBlocked result (λ _. Self.idle self.new ≡ false) }
         ensures same_own { Self.own self.new ≡ Self.own self.old }
         ensures same_size { Self.size self.new ≡ Self.size self.old }
         ensures same_round { Self.round self.new ≡ Self.round self.old }
@@ -61,6 +68,7 @@ pub trait Member: Narrow {
         ensures same_own { Self.own self.new ≡ Self.own self.old }
         ensures same_size { Self.size self.new ≡ Self.size self.old }
         ensures same_round { Self.round self.new ≡ Self.round self.old }
+        ensures same_idle { Self.idle self.new ≡ Self.idle self.old }
         ensures same_ended { Self.ended self.new ≡ Self.ended self.old };
 
     /// Ends the round, and answers whether the member has ended.
@@ -75,6 +83,7 @@ pub trait Member: Narrow {
         ensures stays { ended ≡ true → result ≡ true }
         ensures again { result ≡ false → Self.round self.new ≡ Self.round self.old + 1 }
         ensures uncast { result ≡ false → Self.cast self.new ≡ None }
+        ensures not_idle { result ≡ false → Self.idle self.new ≡ false }
         ensures last_round { result ≡ true → Self.round self.new ≡ Self.round self.old }
         ensures same_own { Self.own self.new ≡ Self.own self.old }
         ensures same_size { Self.size self.new ≡ Self.size self.old };

@@ -2,6 +2,7 @@ ghost use Rattle.std.specs.Prelude.{◌≡◌, ℕ, ◌≤◌, ◌&&◌, true, f
 ghost use Rattle.std.specs.Option.{ForSome};
 ghost use Rattle.pg_triggers.specs.Votes.{IsResting};
 ghost use Rattle.pg_triggers.specs.Mine.{first_vote, second_vote};
+ghost use Rattle.pg_triggers.specs.Endings.{EndsAlike};
 
 use crate::Of2;
 use crate::members::Member;
@@ -12,7 +13,8 @@ use pg_group::{Narrow, Next, Outbox, Program, Vote, Worked};
 use std::marker::PhantomData;
 
 /// Two programs over one group. The first member's vote is the pair's `a` and `b`, the second one's its `c`
-/// and `d`. The pair stops where both have stopped; until then a member that stopped rests.
+/// and `d`. The pair stops where both have stopped; until then a member that stopped rests, and has
+/// 18,446,744,073,709,551,615 and 0 in the pair's votes.
 #[derive(Drop)]
 pub struct Pair<A: Narrow, B: Narrow> {
     first: A,
@@ -57,25 +59,32 @@ impl<A: Narrow, B: Narrow> Pair<A, B> {
         }
     }
 
-    /// The first member.
+    /// The first member. All ranks of a group have ended it with the same round, where its stop is decided by
+    /// one rule over the round's number and the votes.
     pub fn first(&self) -> &A
-        ensures { result.now ≡ self.now.first }
+        ensures value { result.now ≡ self.now.first }
+        ensures same_end { EndsAlike ⟦<Pair<A, B> as Program>⟧ ⟦<A as Program>⟧ (λ pair. pair.first) self.now }
     {
         &self.first
     }
 
-    /// The second member.
+    /// The second member. All ranks of a group have ended it with the same round, where its stop is decided by
+    /// one rule over the round's number and the votes.
     pub fn second(&self) -> &B
-        ensures { result.now ≡ self.now.second }
+        ensures value { result.now ≡ self.now.second }
+        ensures same_end { EndsAlike ⟦<Pair<A, B> as Program>⟧ ⟦<B as Program>⟧ (λ pair. pair.second) self.now }
     {
         &self.second
     }
 }
 
 impl<A: Narrow, B: Narrow> Program for Pair<A, B> {
-    ghost use Rattle.std.specs.Prelude.{◌≡◌, ℕ, ◌&&◌, ◌||◌, ◌⊎◌, false, None, max};
-    ghost use Rattle.pg_triggers.specs.Mine.{first_item, second_item, first_vote, second_vote, whole};
-    ghost use Rattle.pg_triggers.specs.Paired.{BothKeep};
+    ghost use Rattle.std.specs.Prelude.{◌≡◌, ℕ, ◌&&◌, ◌||◌, ◌⊎◌, true, false, Some, None, List, max};
+    ghost use Rattle.pg_group.specs.declared.messages.Body.{Body};
+    ghost use Rattle.pg_group.specs.declared.messages.Body.TheVariants.{Mark};
+    ghost use Rattle.pg_group.specs.Supersteps.{append_others};
+    ghost use Rattle.pg_triggers.specs.Mine.{first_vote, second_vote};
+    ghost use Rattle.pg_triggers.specs.Paired.{BothKeep, FirstDid, SecondDid};
     ghost use Rattle.pg_group.specs.declared.messages.Vote.{Vote};
 
     type Body = Of2<A::Body, B::Body>;
@@ -98,8 +107,12 @@ impl<A: Narrow, B: Narrow> Program for Pair<A, B> {
         (A.own p.first) (A.size p.first) (A.round p.first) (B.round p.second) p.first_ended p.second_ended p.vote handled sent };
 
     ghost DidItem = { λ old sent new more.
-        A.DidItem old.first (whole first_item first_vote sent) new.first (whole first_item first_vote more)
-        ⊎ B.DidItem old.second (whole second_item second_vote sent) new.second (whole second_item second_vote more) };
+        (FirstDid (λ s m. A.DidItem old.first s new.first m) old.first_ended sent more × (new.second ≡ old.second))
+        ⊎ (SecondDid (λ s m. B.DidItem old.second s new.second m) old.second_ended sent more × ((new.first ≡ old.first) ⊎ A.DidNothing old.first new.first)) };
+
+    ghost DidNothing = { λ old new. ((new.first ≡ old.first) ⊎ A.DidNothing old.first new.first)
+        × ((new.second ≡ old.second) ⊎ B.DidNothing old.second new.second)
+        × (new.first_ended ≡ old.first_ended) × (new.second_ended ≡ old.second_ended) × (new.vote ≡ old.vote) };
 
     ghost IsVote = { λ vote. (A.IsVote (first_vote vote) ⊎ IsResting vote.a vote.b) × (B.IsVote (second_vote vote) ⊎ IsResting vote.c vote.d) };
 
@@ -139,7 +152,23 @@ impl<A: Narrow, B: Narrow> Program for Pair<A, B> {
         }
     }
 
-    fn vote(&mut self) -> Vote {
+    fn vote(&mut self) -> Vote
+        requires idle { ⟦<Pair<A, B> as Program>⟧.idle self.old ≡ true }
+        requires uncast { self.old.vote ≡ None }
+        ensures kept { (start : _) (handled sent : List (List (Body _))) → ⟦<Pair<A, B> as Program>⟧.Keeps start handled sent self.old
+            → ⟦<Pair<A, B> as Program>⟧.Keeps start handled (append_others (A.own self.old.first) (Mark result) sent) self.new }
+        ensures cast { self.new.vote ≡ Some result }
+        ensures form { ⟦<Pair<A, B> as Program>⟧.IsVote result }
+        ensures first_votes { self.old.first_ended ≡ false → A.IsVote (first_vote result) }
+        ensures first_rests { self.old.first_ended ≡ true → IsResting result.a result.b }
+        ensures second_votes { self.old.second_ended ≡ false → B.IsVote (second_vote result) }
+        ensures second_rests { self.old.second_ended ≡ true → IsResting result.c result.d }
+        ensures same_own { ⟦<Pair<A, B> as Program>⟧.own self.new ≡ ⟦<Pair<A, B> as Program>⟧.own self.old }
+        ensures same_size { ⟦<Pair<A, B> as Program>⟧.size self.new ≡ ⟦<Pair<A, B> as Program>⟧.size self.old }
+        ensures same_round { ⟦<Pair<A, B> as Program>⟧.round self.new ≡ ⟦<Pair<A, B> as Program>⟧.round self.old }
+        ensures same_idle { ⟦<Pair<A, B> as Program>⟧.idle self.new ≡ ⟦<Pair<A, B> as Program>⟧.idle self.old }
+        ensures same_ended { ⟦<Pair<A, B> as Program>⟧.ended self.new ≡ ⟦<Pair<A, B> as Program>⟧.ended self.old }
+    {
         let first = self.first.vote_on(self.first_ended);
         let second = self.second.vote_on(self.second_ended);
         let vote = Vote {

@@ -1,4 +1,3 @@
-use Rattle.std.proofs.Common.{refl}
 use Rattle.pg_triggers.proofs.PairLemmas.{first_handled, second_handled}
 use Rattle.pg_triggers.proofs.pairs.PairProgram.handle.Goals as goal
 

@@ -1,4 +1,4 @@
-use Rattle.std.proofs.Common.{sym, ◌∙◌, subst}
+use Rattle.std.proofs.Common.{◌∙◌, subst}
 use Rattle.pg_group.specs.Supersteps.{nothing}
 use Rattle.pg_triggers.proofs.PairLemmas.{opens}
 use Rattle.pg_triggers.proofs.pairs.PairProgram.rank.Goals as goal

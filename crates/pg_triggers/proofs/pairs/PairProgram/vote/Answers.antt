@@ -1,4 +1,4 @@
-use Rattle.std.proofs.Common.{refl, sym, subst, ◌∙◌}
+use Rattle.std.proofs.Common.{refl, sym, subst}
 use Rattle.pg_triggers.proofs.PairLemmas.{Promise, both_along, both_vote, same_mark, narrow_vote}
 use Rattle.pg_triggers.proofs.pairs.PairProgram.vote.Goals as goal
 

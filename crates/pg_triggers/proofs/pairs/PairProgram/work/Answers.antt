@@ -1,6 +1,7 @@
-use Rattle.std.proofs.Common.{rules, ◌≡◌, arith, refl, sym, subst, ap, ◌∙◌}
+use Rattle.std.proofs.Common.{rules, ◌≡◌, arith, inl, inr, refl, sym, subst}
 use Rattle.pg_triggers.proofs.PairLemmas.{Promise, first_worked, second_worked, blocked_so}
 use Rattle.pg_triggers.proofs.MarkLemmas.{none_posted}
+use Rattle.pg_triggers.proofs.PostLemmas.{one_sent, member_did, rested, more_so, more_both}
 use Rattle.pg_triggers.specs.declared.items.Of2.TheVariants.{First, Second}
 use Rattle.pg_triggers.specs.Mine.{first_item, second_item, first_vote, second_vote}
 use Rattle.pg_triggers.proofs.pairs.PairProgram.work.Goals as goal
@@ -69,3 +70,39 @@ returns-in-Idle-clause-kept g c = λ start handled kept.
     c.requires.uncast (λ runs. omega (arith, p.first_runs runs, did.same_round)) (λ runs. omega (arith, p.second_runs runs, did.same_round))
     (g.B.Program.round r) done.same_round done.out_rest.2.0 _ (g.O.Outbox.sent v.out.now) _ (search rules) (search rules) done.out_rest.2.1
     done.sends_none (λ ended h s k. subst (λ x. g.B.Program.Keeps start.second h s x) (sym (done.rests ended)) k) (λ h k. done.kept start.second h k)
+
+pub returns-in-More-clause-one : goal.returns-in-More-clause-one
+returns-in-More-clause-one g c =
+    let old = g.O.Outbox.sent c.args.out.now in
+    let w = c.work_on.new.out in
+    let rest = c.work_on.ensures.out_rest in
+    one_sent First first_item first_vote (λ x. refl) _ _ _ _ refl refl rest.2.0 old old (g.O.Outbox.sent w.out.now) _ refl (search rules) rest.2.1 c.in-More.ensures.one
+
+pub returns-in-Idle-clause-one : goal.returns-in-Idle-clause-one
+returns-in-Idle-clause-one g c =
+    let p = c.args.self.now in
+    let old = g.O.Outbox.sent c.args.out.now in
+    let v = c.work_on-in-Idle.new.out in
+    let rest = c.work_on-in-Idle.ensures.out_rest in
+    more_so c.work_on-in-Idle.result _ _ (λ one. one_sent Second second_item second_vote (λ x. refl) _ _ _ _ p.same_rank p.same_size rest.2.0 old _ (g.O.Outbox.sent v.out.now) _ (search rules) (search rules) rest.2.1 one) c.work_on-in-Idle.ensures.one
+
+pub returns-in-More-clause-more : goal.returns-in-More-clause-more
+returns-in-More-clause-more g c =
+    let p = c.args.self.now in
+    let q = c.work_on.new.self in
+    let old = g.O.Outbox.sent c.args.out.now in
+    let w = c.work_on.new.out in
+    let rest = c.work_on.ensures.out_rest in
+    let said = c.in-More.ensures in
+    inl (member_did first_item first_vote second_item second_vote First (λ x. refl) (λ s m. g.A.Program.DidItem p.first s q m) p.first_ended rest.2.0 old old (g.O.Outbox.sent w.out.now) _ refl (search rules) rest.2.1 said.more_runs said.more, refl)
+
+pub returns-in-Idle-clause-more : goal.returns-in-Idle-clause-more
+returns-in-Idle-clause-more g c =
+    let p = c.args.self.now in
+    let q = c.work_on.new.self in
+    let r = c.work_on-in-Idle.new.self in
+    let old = g.O.Outbox.sent c.args.out.now in
+    let v = c.work_on-in-Idle.new.out in
+    let said = c.work_on-in-Idle.ensures in
+    let idle = rested p.first_ended (q ≡ p.first) (g.A.Program.DidNothing p.first q) c.work_on.ensures.rests c.in-Idle.ensures.idle_did in
+    more_both c.work_on-in-Idle.result _ _ _ (λ runs did. inr (member_did second_item second_vote first_item first_vote Second (λ x. refl) (λ s m. g.B.Program.DidItem p.second s r m) p.second_ended said.out_rest.2.0 old _ (g.O.Outbox.sent v.out.now) _ (search rules) (search rules) said.out_rest.2.1 runs did, idle)) said.more_runs said.more
