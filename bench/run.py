@@ -1,8 +1,9 @@
 #!/usr/bin/env python3
 """Runs `pbgl bfs` on two big files, beside the same job by a short C++ program over Boost.Graph, and `pg_bench`,
-which reads a file of the greatest size and divides its graph among ranks.
+which reads a file of the greatest size and divides its graph among ranks, lets ranks send each other messages, and
+synchronizes a property map.
 
-    python3 bench/run.py [--only bfs|divide] [--vertices N] [--edges M] [--rounds K]
+    python3 bench/run.py [--only bfs|divide|traffic|cells] [--vertices N] [--edges M] [--rounds K]
 
 bfs: the files have 1,000,000 vertices, one with 8,000,000 edges by a seeded rule and one in a row. For each
 program the least of three interleaved runs counts: seconds for the whole, megabytes of the file a second, peak
@@ -12,6 +13,13 @@ where it or g++ is missing that program is skipped. The outputs are compared onc
 divide: the file has 1,048,576 vertices and 8,388,608 edges by the seeded rule. For each number of ranks and each
 layout the least of three interleaved runs counts: milliseconds of reading and of dividing, peak memory, and the
 memory beside the edge list (12 bytes an edge) and the arcs (40 bytes an edge).
+
+traffic: in each round every rank sends one item and one mark to every other; a run on the caller's thread sends about
+16 million messages. For each number of ranks the least of three interleaved runs counts: messages a second.
+
+cells: the file has 1,000,000 vertices and 8,000,000 edges by the seeded rule, and 4 ranks have it in blocks. A value is
+put to each cell of each rank, own vertex or ghost, and the map is synchronized with forward and backward, on the caller's
+thread. The least of three runs counts: cells a second of filling and synchronizing together.
 """
 import argparse, os, re, subprocess, sys, tempfile, time
 
@@ -64,15 +72,14 @@ def built(crate):
     return program
 
 
-def divided(words):
-    """Milliseconds of reading and of dividing, peak megabytes, and what the run printed."""
+def timed(words):
+    """The milliseconds that the run told, its peak megabytes, and what it printed."""
     child = subprocess.Popen(words, stdout=subprocess.PIPE, stderr=subprocess.PIPE, text=True)
     times, counts = child.stderr.read(), child.stdout.read()
     _, status, usage = os.wait4(child.pid, 0)
     if status != 0:
         sys.exit("%s ended with %d: %s" % (" ".join(words), status, times))
-    reading, dividing = re.findall(r"(\d+) ms", times)
-    return int(reading), int(dividing), usage.ru_maxrss * 1024 / 1e6, counts.strip()
+    return [int(time) for time in re.findall(r"(\d+) ms", times)], usage.ru_maxrss * 1024 / 1e6, counts.strip()
 
 
 def report_divisions(file, edges, program, rounds):
@@ -80,12 +87,34 @@ def report_divisions(file, edges, program, rounds):
     for _ in range(rounds):
         for ranks in (1, 4, 32):
             for layout in ("block", "random"):
-                reading, dividing, memory, counts = divided([program, file, str(ranks), layout])
+                (reading, dividing), memory, counts = timed([program, file, str(ranks), layout])
                 was = best.get((ranks, layout), (reading, dividing))
                 best[ranks, layout] = min(reading, was[0]), min(dividing, was[1]), memory, counts
     for (ranks, layout), (reading, dividing, memory, counts) in best.items():
         print("%2d %-6s reading %5d ms, dividing %5d ms, %4.0f MB, %4.0f MB beside; %s"
               % (ranks, layout, reading, dividing, memory, memory - 52e-6 * edges, counts))
+
+
+def report_traffic(program, rounds):
+    best = {}
+    for _ in range(rounds):
+        for ranks in (2, 4, 8):
+            turns = 16_000_000 // (2 * ranks * (ranks - 1))
+            (running,), _, counts = timed([program, "traffic", str(ranks), str(turns)])
+            best[ranks] = min(best.get(ranks, (running, counts)), (running, counts))
+    for ranks, (running, counts) in best.items():
+        print("%2d ranks %s in %5d ms, %.1f million a second"
+              % (ranks, counts, running, int(counts.split()[0]) / running / 1000))
+
+
+def report_cells(file, program, rounds):
+    best = None
+    for _ in range(rounds):
+        (running,), memory, counts = timed([program, "cells", file, "4"])
+        best = min(best or (running, memory, counts), (running, memory, counts))
+    running, memory, counts = best
+    print(" 4 ranks %s in %5d ms, %.1f million a second, %4.0f MB"
+          % (counts, running, int(counts.split()[0]) / running / 1000, memory))
 
 
 def made(make, folder, name, words):
@@ -116,21 +145,29 @@ def divisions(make, folder, given):
     report_divisions(file, edges, built("pg_bench"), given.rounds)
 
 
+def maps(make, folder, given):
+    file = made(make, folder, "maps", ["random", str(given.vertices), str(given.edges), "1"])
+    report_cells(file, built("pg_bench"), given.rounds)
+
+
 def main():
     parser = argparse.ArgumentParser(description=__doc__, formatter_class=argparse.RawDescriptionHelpFormatter)
     parser.add_argument("--vertices", type=int, default=1_000_000)
     parser.add_argument("--edges", type=int, default=8_000_000)
     parser.add_argument("--rounds", type=int, default=3)
-    parser.add_argument("--only", choices=["bfs", "divide"])
+    parser.add_argument("--only", choices=["bfs", "divide", "traffic", "cells"])
     given = parser.parse_args()
+    if given.only in (None, "traffic"):
+        report_traffic(built("pg_bench"), given.rounds)
+    if given.only == "traffic":
+        return
     with tempfile.TemporaryDirectory() as folder:
         make = compiled("make_graph.cpp", folder)
         if make is None:
             sys.exit("g++ is missing: no file to measure on")
-        if given.only != "divide":
-            searches(make, folder, given)
-        if given.only != "bfs":
-            divisions(make, folder, given)
+        for name, job in {"bfs": searches, "divide": divisions, "cells": maps}.items():
+            if given.only in (None, name):
+                job(make, folder, given)
 
 
 if __name__ == "__main__":

@@ -1,1 +1,3 @@
+mod Known
+mod Others
 mod Sums

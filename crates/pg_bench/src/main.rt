@@ -3,34 +3,57 @@
 //!     pg_bench FILE RANKS block|random
 //!
 //! prints how many arcs, ghosts and holders the ranks have together, and on standard error the milliseconds of
-//! reading and of dividing.
+//! reading and of dividing. And it measures how long messages take between ranks:
+//!
+//!     pg_bench traffic RANKS ROUNDS
+//!
+//! lets each rank send one item and one mark to every other in each round, all on one thread. It prints how many
+//! messages were sent, and on standard error the milliseconds of the run. And it measures property maps:
+//!
+//!     pg_bench cells FILE RANKS
+//!
+//! divides the graph in blocks, puts a value to each cell of every rank's map, and synchronizes with forward and
+//! backward. It prints how many cells there are, and on standard error the milliseconds of filling and synchronizing.
 #![tactic(auto)]
 
 ghost use Rattle.std.specs.Prelude.{◌≡◌};
 
 mod jobs;
 mod layouts;
+mod sites;
 mod totals;
+mod traffic;
 
-use jobs::Job;
+use jobs::{Division, Job, Traffic};
 use layouts::{Layout, random_owners};
 use pg_adj::split;
-use pg_base::EdgeList;
+use pg_base::{EdgeList, OpenGate, Ranks};
 use pg_dist::{Block, Distribution, Listed};
+use pg_lane::ArrayLanes;
 use pg_metis::{GraphFault, read_graph};
 use pg_outside::{FileInputs, Inputs};
+use pg_run::run;
+use sites::{blocks, sites_of, synchronize};
 use std::io::ErrorKind;
+use std::rt::Clock;
+use std::sync::Wait;
 use std::time::{Duration, Instant};
 use std::{env, io};
-use totals::Totals;
+use totals::{Totals, cell_count};
+use traffic::{group_of_rolls, message_count};
 
 fn main(rt: HostRuntime) -> io::Result<()> {
     let words = words(&rt)?;
     match Job::of_words(&words) {
-        Some(job) => run(&rt, job),
+        Some(Job::Divide(division)) => measure_division(&rt, division),
+        Some(Job::Send(traffic)) => measure_traffic(&rt, traffic),
+        Some(Job::Synchronize(map)) => {
+            let graph = load(&rt, map.file)?;
+            measure_map(&rt, &graph, map.ranks)
+        }
         None => Err(io::Error::new(
             ErrorKind::InvalidInput,
-            "the words are FILE RANKS block|random",
+            "the words are FILE RANKS block|random, traffic RANKS ROUNDS or cells FILE RANKS",
         )),
     }
 }
@@ -45,7 +68,7 @@ fn words(rt: &HostRuntime) -> io::Result<Vec<String>> {
 }
 
 // Reads, divides, and prints what came of it and how long it took.
-fn run(rt: &HostRuntime, job: Job<'_>) -> io::Result<()> {
+fn measure_division(rt: &HostRuntime, job: Division<'_>) -> io::Result<()> {
     let start = Instant::now(rt)?;
     let graph = load(rt, job.file)?;
     let reading = start.elapsed(rt)?;
@@ -98,4 +121,38 @@ fn divide<D: Distribution>(
         reading.as_millis(),
         dividing.as_millis()
     )
+}
+
+// Runs the rolls of a group, and prints how many messages they sent and how long it took.
+fn measure_traffic<R: Wait + Clock + Print + Eprint + AllocGlobal + Copy + Send>(
+    rt: &R,
+    job: Traffic,
+) -> io::Result<()> {
+    let Ok(group) = group_of_rolls(rt, rt.alloc(), job) else {
+        return Err(ErrorKind::OutOfMemory.into());
+    };
+    let start = Instant::now(rt)?;
+    let finished = run(rt, group, 1, &OpenGate);
+    let running = start.elapsed(rt)?;
+    println!(rt; "{} messages", message_count(&finished.lanes))?;
+    eprintln!(rt; "{} ms", running.as_millis())
+}
+
+// Fills and synchronizes a property map of so many ranks, and prints how many cells it has and how long it took.
+fn measure_map<R: Wait + Clock + Print + Eprint + AllocGlobal + Copy + Send>(
+    rt: &R,
+    graph: &EdgeList,
+    ranks: Ranks,
+) -> io::Result<()> {
+    let Ok(parts) = blocks(rt.alloc(), graph, ranks) else {
+        return Err(ErrorKind::OutOfMemory.into());
+    };
+    let Ok(mut sites) = sites_of::<ArrayLanes<R>>(rt, rt.alloc(), &parts, ranks) else {
+        return Err(ErrorKind::OutOfMemory.into());
+    };
+    let start = Instant::now(rt)?;
+    synchronize(&mut sites).map_err(|_| ErrorKind::Other)?;
+    let running = start.elapsed(rt)?;
+    println!(rt; "{} cells", cell_count(&parts))?;
+    eprintln!(rt; "{} ms", running.as_millis())
 }

@@ -1,6 +1,6 @@
 ghost use Rattle.std.specs.Prelude.{◌≡◌, length};
 ghost use Rattle.std.specs.List.{sum_by};
-ghost use Rattle.pg_bench.specs.Counts.{capped, arcs_in, holders_in};
+ghost use Rattle.pg_bench.specs.Counts.{capped, arcs_in, cells_in, holders_in};
 
 use pg_adj::Part;
 
@@ -31,6 +31,19 @@ impl Totals {
         }
         totals
     }
+}
+
+/// How many cells the maps over these parts have together: one for each own vertex and each ghost.
+pub fn cell_count(parts: &[Part]) -> u64
+    ensures { result ≡ capped (sum_by cells_in parts.now) }
+{
+    let mut count = 0u64;
+    for part in parts {
+        count = count
+            .saturating_add(part.count() as u64)
+            .saturating_add(part.ghosts().len() as u64);
+    }
+    count
 }
 
 // How many arcs the places of a part have.
