@@ -4,8 +4,8 @@ use Rattle.std.specs.List.{sum_by, range_with_len}
 use Rattle.std.proofs.lemmas.List.FromFn.{sum_by-map-range_with_len_more}
 use Rattle.pg_bench.specs.Counts.{capped}
 
-pub row_more : {X : Type 0} (rows : ℕ → List X) (i count more now : ℕ) → count ≡ capped (sum_by length (map rows (range_with_len 0 i))) → more ≡ length (rows i) → now ≡ capped (count + more)
-    → now ≡ capped (sum_by length (map rows (range_with_len 0 (i + 1))))
-row_more rows i count more now is size grown =
-    let one = sum_by-map-range_with_len_more length rows 0 i i (omega arith) in
+pub row_more : {X : Type 0} (lists : ℕ → List X) (i count more now : ℕ) → count ≡ capped (sum_by length (map lists (range_with_len 0 i))) → more ≡ length (lists i) → now ≡ capped (count + more)
+    → now ≡ capped (sum_by length (map lists (range_with_len 0 (i + 1))))
+row_more lists i count more now is size grown =
+    let one = sum_by-map-range_with_len_more length lists 0 i i (omega arith) in
     omega arith
