@@ -1,2 +1,3 @@
+mod Seating
 mod Slots
 mod Steps

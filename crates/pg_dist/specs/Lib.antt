@@ -2,4 +2,5 @@ pub mod Blocks
 pub mod BlockLaws
 pub mod Owners
 pub mod OwnerLaws
+pub mod Seats
 pub mod Tables

@@ -1,5 +1,6 @@
 ghost use Rattle.std.specs.Prelude.{◌≡◌, ℕ, ◌+◌, ◌-◌, ◌<◌, ◌≤◌, IfOk, All, length, slice_index, vec_len};
 ghost use Rattle.pg_base.specs.declared.TheConstants.{MAX_VERTICES};
+ghost use Rattle.pg_dist.specs.Seats.{owners_of, places_of};
 ghost use Rattle.pg_dist.specs.Tables.{AreRanks, ArePlaces, AreStarts, AreInSlots};
 
 use crate::Distribution;
@@ -7,21 +8,20 @@ use crate::tables::{Tables, tables_of};
 use pg_base::{MAX_VERTICES, OutOfMemory, RankNo, Ranks, Vertex};
 use std::alloc::Global;
 
-/// A distribution by a list of owners. Every answer takes constant time. Beside the list there are two
-/// tables of one number for each vertex, and one of a number for each rank and one more.
+/// A distribution by a list of owners. Every answer takes constant time. The list itself is not kept: there
+/// is a table of the owner and the local place of each vertex, side by side, one of the vertices by rank, and
+/// one of a number for each rank and one more.
 #[derive(Debug, Drop)]
 pub struct Listed {
     ranks: Ranks,
-    owners: Vec<u32>,
     tables: Tables,
-    ghost few_owners: { length owners.items ≤ MAX_VERTICES },
-    ghost are_ranks: { AreRanks owners.items ranks },
-    ghost are_places: { ArePlaces owners.items tables.places.items },
-    ghost each_place: { length tables.places.items ≡ length owners.items },
-    ghost are_starts: { AreStarts owners.items ranks tables.starts.items },
+    ghost few_owners: { length (owners_of tables.seats.items) ≤ MAX_VERTICES },
+    ghost are_ranks: { AreRanks (owners_of tables.seats.items) ranks },
+    ghost are_places: { ArePlaces (owners_of tables.seats.items) (places_of tables.seats.items) },
+    ghost are_starts: { AreStarts (owners_of tables.seats.items) ranks tables.starts.items },
     ghost each_start: { length tables.starts.items ≡ ranks + 1 },
-    ghost in_slots: { AreInSlots owners.items (length owners.items) tables.vertices.items },
-    ghost each_slot: { length tables.vertices.items ≡ length owners.items },
+    ghost in_slots: { AreInSlots (owners_of tables.seats.items) (length (owners_of tables.seats.items)) tables.vertices.items },
+    ghost each_slot: { length tables.vertices.items ≡ length (owners_of tables.seats.items) },
 }
 
 impl Listed {
@@ -36,11 +36,7 @@ impl Listed {
             → ⟦<Listed as Distribution>⟧.owner dist v ≡ slice_index parts.items (v - 1)) }
     {
         let tables = tables_of(alloc, &parts, ranks.count()).map_err(|_| OutOfMemory)?;
-        Ok(Listed {
-            ranks,
-            owners: parts,
-            tables,
-        })
+        Ok(Listed { ranks, tables })
     }
 }
 
@@ -48,20 +44,20 @@ impl Distribution for Listed {
     ghost use Rattle.pg_dist.specs.Owners.{owner_in, count_in, place_in, vertex_in};
     ghost use Rattle.pg_dist.specs.OwnerLaws.{place_in-below, vertex_in_place, count_in-within, vertex_in-first, vertex_in-last, owner_in-vertex_in, place_in-vertex_in, vertex_in-ascends, owner_in-below};
 
-    ghost n = { λ d. length d.owners.items };
+    ghost n = { λ d. length (owners_of d.tables.seats.items) };
 
     ghost ranks = { λ d. d.ranks };
 
-    ghost owner = { λ d v. owner_in d.owners.items v };
+    ghost owner = { λ d v. owner_in (owners_of d.tables.seats.items) v };
 
-    ghost local = { λ d v. place_in d.owners.items v };
+    ghost local = { λ d v. place_in (owners_of d.tables.seats.items) v };
 
-    ghost count = { λ d r. count_in d.owners.items r };
+    ghost count = { λ d r. count_in (owners_of d.tables.seats.items) r };
 
-    ghost global = { λ d r i. vertex_in d.owners.items r i };
+    ghost global = { λ d r i. vertex_in (owners_of d.tables.seats.items) r i };
 
     fn n(&self) -> u32 {
-        self.owners.len() as u32
+        self.tables.seats.len() as u32
     }
 
     fn ranks(&self) -> Ranks {
@@ -69,11 +65,11 @@ impl Distribution for Listed {
     }
 
     fn owner(&self, v: Vertex) -> RankNo {
-        RankNo(self.owners[(v.0 - 1) as usize])
+        self.tables.seats[(v.0 - 1) as usize].owner
     }
 
     fn local(&self, v: Vertex) -> u32 {
-        self.tables.places[(v.0 - 1) as usize]
+        self.tables.seats[(v.0 - 1) as usize].place
     }
 
     fn count(&self, r: RankNo) -> u32 {
@@ -87,21 +83,21 @@ impl Distribution for Listed {
 
     ghost n_within = { λ d. d.few_owners };
 
-    ghost owner_is_rank = { λ d v first last. owner_in-below d.owners.items d.ranks v d.are_ranks first last };
+    ghost owner_is_rank = { λ d v first last. owner_in-below (owners_of d.tables.seats.items) d.ranks v d.are_ranks first last };
 
-    ghost local_below = { λ d v first last. place_in-below d.owners.items v first last };
+    ghost local_below = { λ d v first last. place_in-below (owners_of d.tables.seats.items) v first last };
 
-    ghost global_of_local = { λ d v first last. vertex_in_place d.owners.items v first last };
+    ghost global_of_local = { λ d v first last. vertex_in_place (owners_of d.tables.seats.items) v first last };
 
-    ghost count_within = { λ d r rank. count_in-within d.owners.items r };
+    ghost count_within = { λ d r rank. count_in-within (owners_of d.tables.seats.items) r };
 
-    ghost global_first = { λ d r i rank place. vertex_in-first d.owners.items r i place };
+    ghost global_first = { λ d r i rank place. vertex_in-first (owners_of d.tables.seats.items) r i place };
 
-    ghost global_last = { λ d r i rank place. vertex_in-last d.owners.items r i place };
+    ghost global_last = { λ d r i rank place. vertex_in-last (owners_of d.tables.seats.items) r i place };
 
-    ghost owner_of_global = { λ d r i rank place. owner_in-vertex_in d.owners.items r i place };
+    ghost owner_of_global = { λ d r i rank place. owner_in-vertex_in (owners_of d.tables.seats.items) r i place };
 
-    ghost local_of_global = { λ d r i rank place. place_in-vertex_in d.owners.items r i place };
+    ghost local_of_global = { λ d r i rank place. place_in-vertex_in (owners_of d.tables.seats.items) r i place };
 
-    ghost global_ascends = { λ d r i j rank order place. vertex_in-ascends d.owners.items r i j order place };
+    ghost global_ascends = { λ d r i j rank order place. vertex_in-ascends (owners_of d.tables.seats.items) r i j order place };
 }

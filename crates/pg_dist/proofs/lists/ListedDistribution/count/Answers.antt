@@ -1,4 +1,5 @@
 use Rattle.std.proofs.Common.{arith}
+use Rattle.pg_dist.specs.Seats.{owners_of}
 use Rattle.pg_dist.proofs.Slots.{count-read}
 use Rattle.pg_dist.proofs.lists.ListedDistribution.count.Goals as goal
 
@@ -7,7 +8,7 @@ overflow_sub-result c =
     let d = c.args.self.now in
     omega (
       arith,
-      count-read d.owners.items d.tables.starts.items d.ranks c.args.r.0 c.index-2.result.now
+      count-read (owners_of d.tables.seats.items) d.tables.starts.items d.ranks c.args.r.0 c.index-2.result.now
           c.index.result.now d.are_starts d.each_start c.requires c.index-2.ensures c.index.ensures,
     )
 
@@ -16,6 +17,6 @@ returns c =
     let d = c.args.self.now in
     omega (
       arith,
-      count-read d.owners.items d.tables.starts.items d.ranks c.args.r.0 c.index-2.result.now
+      count-read (owners_of d.tables.seats.items) d.tables.starts.items d.ranks c.args.r.0 c.index-2.result.now
           c.index.result.now d.are_starts d.each_start c.requires c.index-2.ensures c.index.ensures,
     )
