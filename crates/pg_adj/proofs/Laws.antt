@@ -10,7 +10,7 @@ use Rattle.pg_adj.specs.declared.arcs.Arc.{Arc}
 use Rattle.pg_adj.specs.Portions.{IsVertex}
 use Rattle.pg_base.specs.Keyed.{items_of}
 use Rattle.pg_adj.specs.Incidence.{incidences}
-use Rattle.pg_adj.specs.Division.{Sharing, AreRows, arc_at, arcs_at, other_end, no_edge}
+use Rattle.pg_adj.specs.Division.{Sharing, AreRows, arc_at, arcs_at, other_end}
 use Rattle.pg_adj.proofs.RowsMore.{row-within}
 
 -- The laws of a distribution.
@@ -83,13 +83,6 @@ pub all_arcs_at : (P : Arc → Type 0) (s : Sharing) (edges : List Edge) (v : �
 all_arcs_at P s edges v h =
     All-map P (arc_at s.owner s.local edges v) (items_of (incidences 0 edges) v)
     (All-weaker (λ k. k < length edges) (λ k. P (arc_at s.owner s.local edges v k)) h (items_of (incidences 0 edges) v) (row-within edges v (items_of (incidences 0 edges) v) refl))
-
--- where arcs at vertices lead to
-pub ends_within : (s : Sharing) (edges : List Edge) (vertex : ℕ → ℕ) (count : ℕ) (bounds : List ℕ) (arcs : List Arc) → All (IsEdge s.n) edges
-    → AreRows (λ i. arcs_at s edges (vertex i)) count bounds arcs → All (λ a. IsVertex s.n a.to.0) arcs
-ends_within s edges vertex count bounds arcs within rows =
-    all_from_rows (λ a. IsVertex s.n a.to.0) (λ i. arcs_at s edges (vertex i)) count bounds arcs rows
-    (λ i l. all_arcs_at (λ a. IsVertex s.n a.to.0) s edges (vertex i) (λ k m. end_within s.n (get_or edges k no_edge) (vertex i) (within k no_edge m)))
 
 -- one more in a list of which each has its fact
 pub each_push : {X : Type 0} (Q : ℕ → X → Type 0) (xs ys : List X) (x : X) (n : ℕ) → length xs ≡ n → ((r : ℕ) (d : X) → r < n → Q r (get_or xs r d)) → Q n x → ys ≡ xs ++ x ∷ []

@@ -1,8 +1,7 @@
 -- Every part of a division meets what is so of every portion.
-use Rattle.std.proofs.Common.{◌≡◌, ◌≢◌, ℕ, ◌+◌, ◌-◌, ◌<◌, ◌≤◌, true, eqb, not, ◌&&◌, List, [], ◌∷◌, ◌++◌, length, get_or, map, filter, All, sym, ap, subst, refl, ◌∙◌, inl, inr, arith, zero, suc}
+use Rattle.std.proofs.Common.{◌≡◌, ◌≢◌, ℕ, ◌+◌, ◌<◌, true, eqb, not, ◌&&◌, List, [], ◌∷◌, ◌++◌, length, get_or, map, filter, All, sym, ap, subst, refl, ◌∙◌, inl, inr, arith, suc}
 use Rattle.std.proofs.lemmas.Bool.{cases_eq, eq-eqb, ne_eqb}
-use Rattle.std.proofs.lemmas.List.{length_push, length-map, get_or_at, get_or_default, length-append, get_or-map}
-use Rattle.std.proofs.lemmas.List.Sums.{length-filter, count_by-le-length}
+use Rattle.std.proofs.lemmas.List.{map_push, length-map, get_or_default, get_or-map}
 use Rattle.std.proofs.lemmas.List.Folds.{Any-from_list_any}
 use Rattle.std.proofs.lemmas.List.Elements.{All-nil, All-cons, All-append, All-map, All-weaker, All-filter, All-head, All-tail, filter_passes}
 use Rattle.pg_base.specs.declared.edges.Edge.{Edge}
@@ -10,22 +9,19 @@ use Rattle.pg_base.specs.Graph.{Graph, IsEdge, IsGraph}
 use Rattle.pg_adj.specs.declared.arcs.Arc.{Arc}
 use Rattle.pg_adj.specs.declared.arcs.Ghost.{Ghost}
 use Rattle.pg_adj.specs.declared.arcs.Holder.{Holder}
+use Rattle.pg_adj.specs.declared.holders.HolderRows.{HolderRows}
 use Rattle.pg_adj.specs.declared.shares.Share.{Share}
 use Rattle.pg_adj.specs.Portions.{Portion, IsVertex, IsForeign, IsOwnArc, IsPortion}
-use Rattle.pg_base.specs.Keyed.{row_of}
-use Rattle.pg_base.specs.Keyed.{items_of, AreRowsByKey}
+use Rattle.pg_base.specs.Keyed.{items_of}
 use Rattle.pg_adj.specs.Holdings.{holdings, holdings_of}
 use Rattle.pg_adj.specs.Division.{Sharing, AreRows, IsShare, IsPartOf, arc_at, arcs_at, other_end, no_edge, leads_abroad, vertices_to, ghost_of, ghosts_of, undivided}
 use Rattle.std.specs.List.{AllPairs}
 use Rattle.pg_adj.proofs.Directed.{directed, ascending}
 use Rattle.pg_adj.proofs.Ascending.{vertices_to-within, ghosts_ascend, holders_ascend}
-use Rattle.pg_adj.specs.Shares.{ghost_lists, IsShareOf, AreGhostLists}
+use Rattle.pg_adj.specs.Shares.{ghost_lists, IsShareOf}
 use Rattle.pg_base.proofs.KeyedRows.{items_of-append}
+use Rattle.pg_adj.proofs.SideBySide.{StandsAt}
 use Rattle.pg_adj.proofs.Laws.{Laws, count-le, own_within, all_from_rows, end_within, all_arcs_at, homes_known, rows_same}
-
-length-vertices_to : (n : ℕ) → length (vertices_to n) ≡ n
-length-vertices_to zero = refl
-length-vertices_to (suc n) = let h = length-vertices_to n in omega (arith, length_push (vertices_to n) (n + 1))
 
 -- What is so of a ghost of the rank r.
 pub record IsGhostOf (s : Sharing) (r : ℕ) (g : Ghost) : Type 0 where
@@ -57,31 +53,24 @@ ghosts_ok s r arcs homes =
     let passes = filter_passes (leads_abroad r arcs) (vertices_to s.n) in
     All-map (IsGhostOf s r) (ghost_of s.owner s.local) vs (λ k d l. ghost_ok s r arcs (get_or vs k d) homes (within k d l) (passes k d l))
 
-ghosts_short : (s : Sharing) (r : ℕ) (arcs : List Arc) → length (ghosts_of s.owner s.local s.n r arcs) ≤ s.n
-ghosts_short s r arcs =
-    let vs : List ℕ = filter (leads_abroad r arcs) (vertices_to s.n) in
-    omega (arith, length-map vs (ghost_of s.owner s.local), length-filter (leads_abroad r arcs) (vertices_to s.n), count_by-le-length (leads_abroad r arcs) (vertices_to s.n), length-vertices_to s.n)
-
 -- the ghosts of a share
 pub share_ghosts : (s : Sharing) (edges : List Edge) (r : ℕ) (vertices bounds : List ℕ) (arcs : List Arc) (ghosts : List Ghost) → IsShare s edges r vertices bounds arcs ghosts
-    → (All (IsGhostOf s r) ghosts) × (length ghosts ≤ s.n)
-share_ghosts s edges r vertices bounds arcs ghosts h = (
-  subst (λ (gs : List Ghost). All (IsGhostOf s r) gs) (sym h.ghost_list) (ghosts_ok s r arcs (homes_known s edges vertices bounds arcs h.row)),
-  subst (λ (gs : List Ghost). length gs ≤ s.n) (sym h.ghost_list) (ghosts_short s r arcs),
-)
+    → All (IsGhostOf s r) ghosts
+share_ghosts s edges r vertices bounds arcs ghosts h =
+    subst (λ (gs : List Ghost). All (IsGhostOf s r) gs) (sym h.ghost_list) (ghosts_ok s r arcs (homes_known s edges vertices bounds arcs h.row))
 
 -- the ghosts of all shares
 pub record AreSharesOf (s : Sharing) (edges : List Edge) (shares : List Share) : Type 0 where
   pub each : length shares ≡ s.ranks
   pub share : (r : ℕ) (d : Share) → r < s.ranks → IsShareOf s edges r (get_or shares r d)
 
-list_facts : (s : Sharing) (edges : List Edge) (shares : List Share) (r : ℕ) (d : List Ghost) (e : Share) → AreSharesOf s edges shares → r < length shares
-    → (All (IsGhostOf s r) (get_or (ghost_lists shares) r d)) × (length (get_or (ghost_lists shares) r d) ≤ s.n)
-list_facts s edges shares r d e h l =
+list_ghosts : (s : Sharing) (edges : List Edge) (shares : List Share) (r : ℕ) (d : List Ghost) (e : Share) → AreSharesOf s edges shares → r < length shares
+    → All (IsGhostOf s r) (get_or (ghost_lists shares) r d)
+list_ghosts s edges shares r d e h l =
     let is : IsShareOf s edges r (get_or shares r e) = h.share r e (omega (arith, h.each)) in
     let x : Share = get_or shares r e in
-    let facts = share_ghosts s edges r x.vertices.items x.rows.bounds.items x.rows.arcs.items x.ghosts.items is in
-    subst (λ (gs : List Ghost). (All (IsGhostOf s r) gs) × (length gs ≤ s.n)) (sym (get_or-map (λ (x : Share). x.ghosts.items) shares r e d l)) facts
+    subst (λ (gs : List Ghost). All (IsGhostOf s r) gs) (sym (get_or-map (λ (x : Share). x.ghosts.items) shares r e d l))
+    (share_ghosts s edges r x.vertices.items x.rows.bounds.items x.rows.arcs.items x.ghosts.items is)
 
 list_ascends : (s : Sharing) (edges : List Edge) (shares : List Share) (r : ℕ) (d : List Ghost) (e : Share) → AreSharesOf s edges shares → r < length shares
     → AllPairs (λ g h. g.vertex.0 < h.vertex.0) (get_or (ghost_lists shares) r d)
@@ -91,20 +80,9 @@ list_ascends s edges shares r d e h l =
     subst (λ (gs : List Ghost). AllPairs (λ g h. g.vertex.0 < h.vertex.0) gs) (sym (get_or-map (λ (x : Share). x.ghosts.items) shares r e d l ∙ is.ghost_list))
     (ghosts_ascend s.owner s.local s.n r x.rows.arcs.items)
 
-first_share : (shares : List Share) (r : ℕ) → r < length shares → Share
+pub first_share : (shares : List Share) (r : ℕ) → r < length shares → Share
 first_share [] r l = absurd (omega arith)
 first_share (x ∷ shares) r l = x
-
-pub lists_ok : (s : Sharing) → Laws s → (edges : List Edge) (shares : List Share) (n : ℕ) → s.ranks ≤ 32 → n ≡ s.n → AreSharesOf s edges shares → AreGhostLists n (ghost_lists shares)
-lists_ok s laws edges shares n few same h =
-    let size = length-map shares (λ (x : Share). x.ghosts.items) in
-    subst (λ (m : ℕ). AreGhostLists m (ghost_lists shares)) (sym same) (record {
-      ranks = omega (arith, h.each);
-      short = λ k d l. let l' : k < length shares = omega arith in (list_facts s edges shares k d (first_share shares k l') h l').1;
-      vertices = λ k d l. let l' : k < length shares = omega arith in
-          All-weaker (IsGhostOf s k) (λ g. IsVertex s.n g.vertex.0) (λ g f. f.vertex) (get_or (ghost_lists shares) k d) (list_facts s edges shares k d (first_share shares k l') h l').0;
-      ascend = λ k d l. let l' : k < length shares = omega arith in list_ascends s edges shares k d (first_share shares k l') h l';
-    })
 
 -- a holder of v is a rank that doesn't own it
 holders_of : (s : Sharing) (rank slot : ℕ) (ghosts : List Ghost) (v : ℕ) → All (IsGhostOf s rank) ghosts → All (λ h. (h.rank.0 ≡ rank) × (s.owner v ≢ rank)) (items_of (holdings_of rank slot ghosts) v)
@@ -181,7 +159,7 @@ pub portion_ok : (s : Sharing) → Laws s → (g : Graph) → IsGraph g → g.n 
     → (p : Portion) → IsPartOf s g (ghost_lists shares) r p → IsPortion p
 portion_ok s laws g graph same shares are r rank p h =
     let size = length-map shares (λ (x : Share). x.ghosts.items) in
-    let ghosts = (share_ghosts s g.edges r p.vertices p.bounds p.arcs p.ghosts h.share).0 in
+    let ghosts = share_ghosts s g.edges r p.vertices p.bounds p.arcs p.ghosts h.share in
     let few = count-le s laws r (length p.vertices) rank h.share.count in
     let within = own_within s laws r p.vertices rank h.share.count h.share.vertex in
     record {
@@ -214,39 +192,53 @@ portion_ok s laws g graph same shares are r rank p h =
           (items_of (holdings 0 (ghost_lists shares)) v)
           (holders_all s 0 (ghost_lists shares) v (λ k d m. let m' : k < length shares = omega arith in
           let zero_and : k ≡ 0 + k = omega arith in
-          subst (λ (q : ℕ). All (IsGhostOf s q) (get_or (ghost_lists shares) k d)) zero_and (list_facts s g.edges shares k d (first_share shares k m') are m').0)));
+          subst (λ (q : ℕ). All (IsGhostOf s q) (get_or (ghost_lists shares) k d)) zero_and (list_ghosts s g.edges shares k d (first_share shares k m') are m'))));
     }
 
--- what a loop over all of them is at
-pub current : {X : Type 0} (all yielded rest rest' : List X) (x : X) → yielded ++ rest ≡ all → rest ≡ x ∷ rest' → (length yielded < length all) × (get_or all (length yielded) x ≡ x)
-current {X} all yielded rest rest' x whole step =
-    let parts : yielded ++ x ∷ rest' ≡ all = ap (λ (xs : List X). yielded ++ xs) (sym step) ∙ whole in (
-      omega (arith, ap length parts, length-append yielded (x ∷ rest')),
-      ap (λ (xs : List X). get_or xs (length yielded) x) (sym parts) ∙ get_or_at yielded x rest' x (length yielded) refl,
-    )
+-- A share with the holders of its vertices.
+abbrev pub portion_of : ℕ → ℕ → ℕ → Share → HolderRows → Portion
+portion_of rank ranks n share rows = record {
+  rank = rank;
+  ranks = ranks;
+  n = n;
+  vertices = share.vertices.items;
+  bounds = share.rows.bounds.items;
+  arcs = share.rows.arcs.items;
+  ghosts = share.ghosts.items;
+  holder_bounds = rows.bounds.items;
+  holders = rows.holders.items;
+}
+
+-- What is said of the holders of the rank r where the shares are these.
+abbrev pub HoldersAre : Sharing → List Share → ℕ → HolderRows → Type 0
+HoldersAre s shares r rows = AreRows (λ i. items_of (holdings 0 (ghost_lists shares)) (s.global r i)) (s.count r) rows.bounds.items rows.holders.items
 
 -- a rank's share with the holders of its vertices is its part
-pub part_is : (s : Sharing) → Laws s → (g : Graph) → IsGraph g → g.n ≡ s.n → (shares : List Share) → AreSharesOf s g.edges shares → (r : ℕ) → r < s.ranks → (x : Share) → get_or shares r x ≡ x
-    → (bounds : List ℕ) (items : List Holder) → AreRowsByKey (holdings 0 (ghost_lists shares)) g.n bounds items
-    → (p : Portion) → p.rank ≡ r → p.ranks ≡ s.ranks → p.n ≡ g.n → p.vertices ≡ x.vertices.items → p.bounds ≡ x.rows.bounds.items → p.arcs ≡ x.rows.arcs.items → p.ghosts ≡ x.ghosts.items
-    → (lent : List ℕ) → lent ≡ p.vertices → AreRows (λ i. row_of bounds items (get_or lent i 0 - 1)) (length lent) p.holder_bounds p.holders
-    → IsPartOf s g (ghost_lists shares) r p
-part_is s laws g graph same shares are r rank x at bounds items keyed p er es en ev eb ea eg lent el rows =
-    let own : IsShareOf s g.edges r x = subst (λ (y : Share). IsShareOf s g.edges r y) at (are.share r x rank) in
-    let share : IsShare s g.edges r p.vertices p.bounds p.arcs p.ghosts = rw (ev, eb, ea, eg) own in
-    let within = own_within s laws r p.vertices rank share.count share.vertex in
-    let rows' : AreRows (λ i. row_of bounds items (get_or p.vertices i 0 - 1)) (length p.vertices) p.holder_bounds p.holders =
-    subst (λ (xs : List ℕ). AreRows (λ i. row_of bounds items (get_or xs i 0 - 1)) (length xs) p.holder_bounds p.holders) el rows in
+pub part_is : (s : Sharing) (g : Graph) → IsGraph g → (shares : List Share) → AreSharesOf s g.edges shares
+    → (rows : List HolderRows) → ((r : ℕ) (d : HolderRows) → r < s.ranks → HoldersAre s shares r (get_or rows r d))
+    → (r rank ranks n : ℕ) → rank ≡ r → ranks ≡ s.ranks → n ≡ g.n → (x : Share) (y : HolderRows) → StandsAt shares r x → StandsAt rows r y
+    → IsPartOf s g (ghost_lists shares) r (portion_of rank ranks n x y)
+part_is s g graph shares are rows held r rank ranks n er es en x y at at_rows =
+    let below : r < s.ranks = omega (arith, at.below, are.each) in
+    let share : IsShareOf s g.edges r x = subst (λ (z : Share). IsShareOf s g.edges r z) at.at (are.share r x below) in
+    let vertices : List ℕ = x.vertices.items in
+    let holders : ℕ → List Holder = λ v. items_of (holdings 0 (ghost_lists shares)) v in
     record {
       rank = er;
       ranks = es;
       n = en;
       share = share;
-      arcs = λ i l. ap (λ xs. map (undivided (get_or p.vertices i 0)) xs) (share.row.row i l) ∙ directed s g graph (get_or p.vertices i 0);
-      ascend = λ i l. subst (λ xs. AllPairs (λ a b. a.to.0 < b.to.0) xs) (sym (share.row.row i l)) (ascending s g graph (get_or p.vertices i 0));
-      holders = rows_same (λ i. row_of bounds items (get_or p.vertices i 0 - 1)) (λ i. items_of (holdings 0 (ghost_lists shares)) (get_or p.vertices i 0)) (length p.vertices) p.holder_bounds p.holders rows'
-          (λ i l.
-          let is = within i 0 l in
-          let next : get_or p.vertices i 0 - 1 + 1 ≡ get_or p.vertices i 0 = omega (arith, is.first) in
-          keyed.row (get_or p.vertices i 0 - 1) (omega (arith, is.first, is.last)) ∙ ap (λ (v : ℕ). items_of (holdings 0 (ghost_lists shares)) v) next);
+      arcs = λ i l. ap (λ xs. map (undivided (get_or vertices i 0)) xs) (share.row.row i l) ∙ directed s g graph (get_or vertices i 0);
+      ascend = λ i l. subst (λ xs. AllPairs (λ a b. a.to.0 < b.to.0) xs) (sym (share.row.row i l)) (ascending s g graph (get_or vertices i 0));
+      holders = subst (λ (count : ℕ). AreRows (λ i. holders (get_or vertices i 0)) count y.bounds.items y.holders.items) (sym share.count)
+          (rows_same (λ i. holders (s.global r i)) (λ i. holders (get_or vertices i 0)) (s.count r) y.bounds.items y.holders.items
+          (subst (HoldersAre s shares r) at_rows.at (held r y below)) (λ i l. ap holders (sym (share.vertex i l))));
     }
+
+-- the parts so far have the ghosts of the shares so far
+pub lists_more : (parts parts' : List Portion) (p : Portion) (yielded : List (Share × HolderRows)) (x : Share) (y : HolderRows) → parts' ≡ parts ++ p ∷ []
+    → map (λ q. q.ghosts) parts ≡ ghost_lists (map (λ q. q.0) yielded) → p.ghosts ≡ x.ghosts.items → map (λ q. q.ghosts) parts' ≡ ghost_lists (map (λ q. q.0) (yielded ++ (x, y) ∷ []))
+lists_more parts parts' p yielded x y pushed so_far same =
+    ap (λ (qs : List Portion). map (λ q. q.ghosts) qs) pushed ∙ (map_push (λ (q : Portion). q.ghosts) parts p
+    ∙ (ap (λ (gs : List (List Ghost)). gs ++ p.ghosts ∷ []) so_far ∙ (ap (λ (g : List Ghost). ghost_lists (map (λ q. q.0) yielded) ++ g ∷ []) same
+    ∙ sym (ap ghost_lists (map_push (λ (q : Share × HolderRows). q.0) yielded (x, y)) ∙ map_push (λ (z : Share). z.ghosts.items) (map (λ q. q.0) yielded) x))))

@@ -1,5 +1,5 @@
 -- Which ranks hold a vertex as a ghost.
-use Rattle.std.specs.Prelude.{◌≡◌, ℕ, ◌+◌, ◌<◌, ◌≤◌, List, [], ◌∷◌, ◌++◌, length, slice_index, slice_index_or}
+use Rattle.std.specs.Prelude.{ℕ, ◌+◌, List, [], ◌∷◌, ◌++◌}
 use Rattle.pg_adj.specs.declared.arcs.Ghost.{Ghost}
 use Rattle.pg_adj.specs.declared.arcs.Holder.{Holder}
 use Rattle.pg_base.specs.Keyed.{Keyed}
@@ -14,14 +14,3 @@ holdings_of rank slot (g ∷ ghosts) =
 abbrev pub holdings : ℕ → List (List Ghost) → List (Keyed Holder)
 holdings rank [] = []
 holdings rank (ghosts ∷ lists) = holdings_of rank 0 ghosts ++ holdings (rank + 1) lists
-
--- The ghosts before this slot come before the vertex v, and no other.
-pub record IsPassed (v : ℕ) (ghosts : List Ghost) (slot : ℕ) : Type 0 where
-  pub within : slot ≤ length ghosts
-  pub before : (j : ℕ) (d : Ghost) → j < slot → (slice_index_or ghosts j d).vertex.0 < v
-  pub behind : (j : ℕ) (d : Ghost) → slot ≤ j → j < length ghosts → v ≤ (slice_index_or ghosts j d).vertex.0
-
--- So it is of each rank's ghosts and slot.
-pub record ArePassed (v : ℕ) (lists : List (List Ghost)) (slots : List ℕ) : Type 0 where
-  pub each : length slots ≡ length lists
-  pub passed : (r : ℕ) → r < length lists → IsPassed v (slice_index_or lists r []) (slice_index slots r)

@@ -4,4 +4,5 @@ pub mod Division
 pub mod Holdings
 pub mod Shares
 pub mod Leaving
-pub mod Buckets
+pub mod Blocks
+pub mod RankSets

@@ -1,123 +1,129 @@
-//! The ranks that hold each vertex as a ghost, in compressed rows: the ghosts of all ranks are merged by vertex.
+//! The ranks that hold each own vertex of a rank as a ghost, in compressed rows.
 
-ghost use Rattle.std.specs.Prelude.{◌≡◌, ℕ, ◌+◌, ◌-◌, ◌<◌, ◌≤◌, [], ◌∷◌, ◌++◌, true, false, length, All, IfOk, OnOk, slice_index};
+ghost use Rattle.std.specs.Prelude.{◌≡◌, ◌==◌, ℕ, ◌+◌, ◌<◌, ◌≤◌, ◌^◌, [], ◌∷◌, ◌++◌, length, map, All, IfOk, slice_index, slice_index_or, vec_capacity, if◌then◌else◌};
+ghost use Rattle.std.specs.List.{sum_by};
 ghost use Rattle.pg_base.specs.declared.TheConstants.{MAX_RANKS, MAX_VERTICES};
-ghost use Rattle.pg_adj.specs.Portions.{IsVertex};
-ghost use Rattle.std.specs.List.{AllPairs};
-ghost use Rattle.pg_base.specs.Keyed.{AreBounds, AreRowsByKey, row_of, items_of};
-ghost use Rattle.pg_adj.specs.Holdings.{holdings, holdings_of, IsPassed, ArePassed};
-ghost use Rattle.pg_adj.specs.Division.{AreRows};
-ghost use Rattle.pg_adj.specs.Shares.{ghost_lists, AreGhostLists};
+ghost use Rattle.pg_adj.specs.Division.{AreRows, vertices_to};
+ghost use Rattle.pg_adj.specs.RankSets.{has, members, HaveRanksBelow, ranks_holding, holders_by};
+ghost use Rattle.pg_adj.specs.declared.holders.HolderRows.{HolderRows};
 
-use crate::rows::item_count;
-use crate::shares::Share;
-use crate::{Ghost, Holder};
-use pg_base::RankNo;
-use pg_base::rows::row_at;
+use crate::Holder;
+use crate::rank_sets::RankSet;
+use pg_base::{RankNo, Vertex};
+use pg_dist::Distribution;
 use std::alloc::{AllocError, Global};
 
-/// The holders of each vertex, one vertex after another: those of the vertex v ascend from `bounds[v - 1]` to
-/// `bounds[v]`.
+/// The holders of a rank's vertices, one place after another: those of the place i from `bounds[i]` to
+/// `bounds[i + 1]`.
 #[derive(Drop)]
-pub struct Holdings {
+pub struct HolderRows {
     pub bounds: Vec<u32>,
     pub holders: Vec<Holder>,
 }
 
-/// The holders of every vertex, in time linear in the vertices, for each rank, and the ghosts.
-pub fn holdings_by_vertex(alloc: Global, n: u32, shares: &[Share]) -> Result<Holdings, AllocError>
-    requires vertices { n ≤ MAX_VERTICES }
-    requires ghosts { AreGhostLists n (ghost_lists shares.now) }
-    ensures { IfOk result (λ rows. AreRowsByKey (holdings 0 (ghost_lists shares.now)) n rows.bounds.items rows.holders.items) }
-{
-    let mut passed = vec![in alloc; 0; shares.len()]?;
-    let mut holders = Vec::with_capacity(alloc, ghost_count(shares))?;
-    let mut bounds = Vec::with_capacity(alloc, n as usize + 1)?;
-    bounds.push(0)?;
-    for v in 1..n + 1 {
-        push_holders(v, shares, &mut passed, &mut holders)?;
-        bounds.push(holders.len() as u32)?;
-    }
-    Ok(Holdings { bounds, holders })
-}
-
-// How many ghosts the ranks have together.
-fn ghost_count(shares: &[Share]) -> usize
-    requires { AreGhostLists MAX_VERTICES (ghost_lists shares.now) }
-    ensures { result ≡ length (holdings 0 (ghost_lists shares.now)) }
-{
-    let mut count = 0;
-    for share in shares {
-        count += share.ghosts.len();
-    }
-    count
-}
-
-// Appends the ranks that hold v as a ghost, where each rank has passed its ghosts before v, and passes v too.
-fn push_holders(
-    v: u32,
-    shares: &[Share],
-    passed: &mut [u32],
-    holders: &mut Vec<Holder>,
-) -> Result<(), AllocError>
-    requires ghosts { AreGhostLists MAX_VERTICES (ghost_lists shares.now) }
-    requires passed { ArePassed v (ghost_lists shares.now) passed.old }
-    ensures held { OnOk result (holders.new.items ≡ holders.old.items ++ items_of (holdings 0 (ghost_lists shares.now)) v) }
-    ensures few { OnOk result (length holders.new.items ≤ length holders.old.items + length shares.now) }
-    ensures passed { OnOk result (ArePassed (v + 1) (ghost_lists shares.now) passed.new) }
-{
-    for (rank, share) in shares.iter().enumerate() {
-        let slot = passed[rank];
-        if is_next(&share.ghosts, slot, v) {
-            holders.push(Holder {
-                rank: RankNo(rank as u32),
-                slot,
-            })?;
-            passed[rank] = slot + 1;
-        }
-    }
-    Ok(())
-}
-
-// Whether v is the ghost at this slot, behind those that are passed.
-fn is_next(ghosts: &[Ghost], slot: u32, v: u32) -> bool
-    requires ascend { AllPairs (λ g h. g.vertex.0 < h.vertex.0) ghosts.now }
-    requires passed { IsPassed v ghosts.now slot }
-    ensures held { result ≡ true → (rank : ℕ) → items_of (holdings_of rank 0 ghosts.now) v ≡ record { rank = record { 0 = rank }; slot = slot } ∷ [] }
-    ensures short { result ≡ true → slot < length ghosts.now }
-    ensures moved { result ≡ true → IsPassed (v + 1) ghosts.now (slot + 1) }
-    ensures absent { result ≡ false → (rank : ℕ) → items_of (holdings_of rank 0 ghosts.now) v ≡ [] }
-    ensures stays { result ≡ false → IsPassed (v + 1) ghosts.now slot }
-{
-    (slot as usize) < ghosts.len() && ghosts[slot as usize].vertex.0 == v
-}
-
-/// The holders of some vertices, in compressed rows.
-#[derive(Drop)]
-pub struct HolderRows {
-    pub bounds: Vec<usize>,
-    pub holders: Vec<Holder>,
-}
-
-/// The holders of these vertices, one vertex after another.
-pub fn holder_rows(
+/// The holders of each rank's vertices, where the set at the place v - 1 has the ranks that hold the vertex v. Takes
+/// time linear in the sets and what is in them.
+pub fn holder_rows<D: Distribution>(
     alloc: Global,
-    holdings: &Holdings,
-    vertices: &[u32],
-) -> Result<HolderRows, AllocError>
-    requires bounded { AreBounds (length holdings.now.bounds.items - 1) holdings.now.bounds.items (length holdings.now.holders.items) }
-    requires vertices { All (IsVertex (length holdings.now.bounds.items - 1)) vertices.now }
-    requires few { length vertices.now ≤ MAX_VERTICES }
-    ensures { IfOk result (λ rows. AreRows
-        (λ i. row_of holdings.now.bounds.items holdings.now.holders.items (slice_index vertices.now i - 1))
-        (length vertices.now) rows.bounds.items rows.holders.items) }
+    dist: &D,
+    sets: &[RankSet],
+) -> Result<Vec<HolderRows>, AllocError>
+    requires each { length sets.now ≡ D.n dist.now }
+    requires ranks { HaveRanksBelow (D.ranks dist.now) sets.now }
+    ensures count { IfOk result (λ rows. length rows.items ≡ D.ranks dist.now) }
+    ensures row { IfOk result (λ rows. (r : ℕ) (d : HolderRows) → r < D.ranks dist.now
+        → AreRows (λ i. holders_by sets.now (D.global dist.now r i)) (D.count dist.now r)
+        (slice_index_or rows.items r d).bounds.items (slice_index_or rows.items r d).holders.items) }
 {
-    let mut holders = Vec::with_capacity(alloc, item_count(&holdings.bounds, vertices))?;
-    let mut bounds = Vec::with_capacity(alloc, vertices.len() + 1)?;
-    bounds.push(0)?;
-    for v in vertices {
-        holders.extend_from_slice(row_at(&holdings.bounds, &holdings.holders, *v))?;
-        bounds.push(holders.len())?;
+    let mut rows = empty_rows(alloc, dist, &holder_counts(alloc, dist, sets)?)?;
+    let mut next_slots = vec![in alloc; 0; rows.len()]?;
+    for (k, set) in sets.iter().enumerate() {
+        let owner = dist.owner(Vertex(k as u32 + 1));
+        push_holders(*set, &mut next_slots, &mut rows[owner.0 as usize]);
     }
+    Ok(rows)
+}
+
+// How many holders the vertices of each rank have together.
+fn holder_counts<D: Distribution>(
+    alloc: Global,
+    dist: &D,
+    sets: &[RankSet],
+) -> Result<Vec<u32>, AllocError>
+    requires each { length sets.now ≡ D.n dist.now }
+    ensures each { IfOk result (λ counts. length counts.items ≡ D.ranks dist.now) }
+    ensures held { IfOk result (λ counts. (r : ℕ) → r < D.ranks dist.now → slice_index counts.items r
+        ≡ sum_by (λ v. if D.owner dist.now v == r then length (members (ranks_holding sets.now v)) else 0) (vertices_to (D.n dist.now))) }
+{
+    let mut counts = vec![in alloc; 0; dist.ranks().count() as usize]?;
+    for (k, set) in sets.iter().enumerate() {
+        let owner = dist.owner(Vertex(k as u32 + 1));
+        counts[owner.0 as usize] += set.len();
+    }
+    Ok(counts)
+}
+
+// Rows without a place for each rank, with room for all of its places and for so many holders.
+fn empty_rows<D: Distribution>(
+    alloc: Global,
+    dist: &D,
+    counts: &[u32],
+) -> Result<Vec<HolderRows>, AllocError>
+    requires { length counts.now ≡ D.ranks dist.now }
+    ensures each { IfOk result (λ rows. length rows.items ≡ length counts.now) }
+    ensures row { IfOk result (λ rows. (r : ℕ) (d : HolderRows) → r < length counts.now
+        → (slice_index_or rows.items r d).bounds.items ≡ 0 ∷ []) }
+    ensures empty { IfOk result (λ rows. (r : ℕ) (d : HolderRows) → r < length counts.now
+        → (slice_index_or rows.items r d).holders.items ≡ []) }
+    ensures places { IfOk result (λ rows. (r : ℕ) (d : HolderRows) → r < length counts.now
+        → vec_capacity (slice_index_or rows.items r d).bounds ≡ D.count dist.now r + 1) }
+    ensures room { IfOk result (λ rows. (r : ℕ) (d : HolderRows) → r < length counts.now
+        → vec_capacity (slice_index_or rows.items r d).holders ≡ slice_index counts.now r) }
+{
+    let mut rows = Vec::with_capacity(alloc, counts.len())?;
+    for r in 0..dist.ranks().count() {
+        let places = dist.count(RankNo(r)) as usize;
+        rows.push(no_rows(alloc, places, counts[r as usize] as usize)?)?;
+    }
+    Ok(rows)
+}
+
+// Rows without a place, with room for so many places and holders.
+fn no_rows(alloc: Global, places: usize, count: usize) -> Result<HolderRows, AllocError>
+    requires { places ≤ MAX_VERTICES }
+    ensures bounds { IfOk result (λ rows. rows.bounds.items ≡ 0 ∷ []) }
+    ensures holders { IfOk result (λ rows. rows.holders.items ≡ []) }
+    ensures places { IfOk result (λ rows. vec_capacity rows.bounds ≡ places + 1) }
+    ensures room { IfOk result (λ rows. vec_capacity rows.holders ≡ count) }
+{
+    let mut bounds = Vec::with_capacity(alloc, places + 1)?;
+    bounds.push_reserved(0);
+    let holders = Vec::with_capacity(alloc, count)?;
     Ok(HolderRows { bounds, holders })
+}
+
+// Appends the row of a vertex that the ranks of this set hold, where there is room for it. `next_slots` has the slot of
+// the next vertex that each rank holds.
+fn push_holders(set: RankSet, next_slots: &mut [u32], rows: &mut HolderRows)
+    requires ranks { All (λ r. r < length next_slots.old) (members set) }
+    requires fits { All (λ slot. slot < MAX_VERTICES) next_slots.old }
+    requires small { length rows.old.holders.items + MAX_RANKS < 2 ^ 32 }
+    requires place { length rows.old.bounds.items < vec_capacity rows.old.bounds }
+    requires room { length rows.old.holders.items + length (members set) ≤ vec_capacity rows.old.holders }
+    ensures holders { rows.new.holders.items ≡ rows.old.holders.items
+        ++ map (λ r. record { rank = record { 0 = r }; slot = slice_index next_slots.old r }) (members set) }
+    ensures bounds { rows.new.bounds.items ≡ rows.old.bounds.items ++ length rows.new.holders.items ∷ [] }
+    ensures places { vec_capacity rows.new.bounds ≡ vec_capacity rows.old.bounds }
+    ensures room { vec_capacity rows.new.holders ≡ vec_capacity rows.old.holders }
+    ensures each { length next_slots.new ≡ length next_slots.old }
+    ensures next_slots { (r : ℕ) → r < length next_slots.old
+        → slice_index next_slots.new r ≡ slice_index next_slots.old r + (if has set r then 1 else 0) }
+{
+    let mut rest = set;
+    while let Some(rank) = rest.pop_first() {
+        let slot = next_slots[rank.0 as usize];
+        rows.holders.push_reserved(Holder { rank, slot });
+        next_slots[rank.0 as usize] = slot + 1;
+    }
+    rows.bounds.push_reserved(rows.holders.len() as u32);
 }

@@ -3,10 +3,12 @@
 #![tactic(auto)]
 
 mod arcs;
-mod buckets;
+mod blocks;
 mod filling;
+mod ghosts;
 mod holders;
 mod parts;
+mod rank_sets;
 mod rows;
 mod shares;
 mod sizing;

@@ -5,6 +5,7 @@ ghost use Rattle.pg_base.specs.Keyed.{row_of};
 use crate::holders::HolderRows;
 use crate::shares::Share;
 use crate::{Arc, Ghost, Holder};
+use pg_base::rows::row_at;
 use pg_base::{RankNo, Ranks, Vertex};
 use std::marker::Model;
 
@@ -19,7 +20,7 @@ pub struct Part {
     bounds: Vec<u32>,
     arcs: Vec<Arc>,
     ghosts: Vec<Ghost>,
-    holder_bounds: Vec<usize>,
+    holder_bounds: Vec<u32>,
     holders: Vec<Holder>,
 }
 
@@ -145,9 +146,7 @@ impl Part {
         ensures own { All (IsOwnArc self.now) result.now }
         ensures ascend { AllPairs (λ a b. a.to.0 < b.to.0) result.now }
     {
-        let begin = self.bounds[i as usize];
-        let end = self.bounds[i as usize + 1];
-        &self.arcs[begin as usize..end as usize]
+        row_at(&self.bounds, &self.arcs, i + 1)
     }
 
     /// The vertices of other ranks that an own vertex has an arc to, ascending, each once. None of them is an own one.
@@ -168,8 +167,6 @@ impl Part {
         ensures foreign { All (λ h. IsForeign self.now h.rank.0) result.now }
         ensures ascend { AllPairs (λ a b. a.rank.0 < b.rank.0) result.now }
     {
-        let begin = self.holder_bounds[i as usize];
-        let end = self.holder_bounds[i as usize + 1];
-        &self.holders[begin..end]
+        row_at(&self.holder_bounds, &self.holders, i + 1)
     }
 }

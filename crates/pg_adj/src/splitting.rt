@@ -1,21 +1,24 @@
 ghost use Rattle.std.specs.Prelude.{◌≡◌, ℕ, ◌<◌, ◌≤◌, length, IfOk, slice_index_or};
 ghost use Rattle.pg_base.specs.declared.TheConstants.{MAX_RANKS};
-ghost use Rattle.pg_adj.specs.Division.{Divided};
+ghost use Rattle.pg_adj.specs.Division.{AreRows, Divided};
 ghost use Rattle.pg_adj.specs.Holdings.{holdings};
-ghost use Rattle.pg_base.specs.Keyed.{AreRowsByKey};
+ghost use Rattle.pg_base.specs.Keyed.{items_of};
 ghost use Rattle.pg_adj.specs.Shares.{IsShareOf, ghost_lists};
 ghost use Rattle.pg_adj.specs.declared.shares.Share.{Share};
+ghost use Rattle.pg_adj.specs.declared.holders.HolderRows.{HolderRows};
 
 use crate::Part;
-use crate::holders::{Holdings, holder_rows, holdings_by_vertex};
+use crate::ghosts::holding_ranks;
+use crate::holders::{HolderRows, holder_rows};
 use crate::shares::{Share, shares_of};
+use crate::sizing::rows_of;
 use pg_base::{EdgeList, OutOfMemory, RankNo};
 use pg_dist::Distribution;
 use std::alloc::{AllocError, Global};
 
 /// Divides `graph` as `dist` says: one part for each rank, in order. Each edge gives two arcs, each at the
-/// owner of the vertex from which it leads. Takes time linear in the graph, but for passes over all
-/// vertices for each rank; memory by exact size, and 16 bytes for each of up to 2,097,152 edges at once.
+/// owner of the vertex from which it leads. Takes time linear in the graph; memory by exact size, beside the
+/// parts 4 bytes a vertex, and before 16 bytes for each of up to 2,097,152 edges.
 /// `OutOfMemory` comes only where memory is wanting.
 pub fn split<D: Distribution>(
     alloc: Global,
@@ -33,10 +36,7 @@ pub fn split<D: Distribution>(
     })
         graph.now parts.items) }
 {
-    match parts_of(alloc, graph, dist) {
-        Ok(parts) => Ok(parts),
-        Err(_) => Err(OutOfMemory),
-    }
+    parts_of(alloc, graph, dist).map_err(|_| OutOfMemory)
 }
 
 fn parts_of<D: Distribution>(
@@ -55,9 +55,11 @@ fn parts_of<D: Distribution>(
     })
         graph.now parts.items) }
 {
-    let shares = shares_of(alloc, dist, graph)?;
-    let holders = holdings_by_vertex(alloc, graph.n(), &shares)?;
-    joined(alloc, graph, dist, shares, &holders)
+    let rows = rows_of(alloc, graph, dist)?;
+    let sets = holding_ranks(alloc, graph, dist, &rows)?;
+    let shares = shares_of(alloc, dist, rows, &sets)?;
+    let holders = holder_rows(alloc, dist, &sets)?;
+    joined(alloc, graph, dist, shares, holders)
 }
 
 // The shares with their holders.
@@ -66,7 +68,7 @@ fn joined<D: Distribution>(
     graph: &EdgeList,
     dist: &D,
     shares: Vec<Share>,
-    holders: &Holdings,
+    holders: Vec<HolderRows>,
 ) -> Result<Vec<Part>, AllocError>
     requires n { graph.now.n ≡ D.n dist.now }
     requires count { length shares.items ≡ D.ranks dist.now }
@@ -81,7 +83,10 @@ fn joined<D: Distribution>(
           global = D.global dist.now;
         })
         graph.now.edges r (slice_index_or shares.items r d) }
-    requires holders { AreRowsByKey (holdings 0 (ghost_lists shares.items)) graph.now.n holders.now.bounds.items holders.now.holders.items }
+    requires each { length holders.items ≡ D.ranks dist.now }
+    requires holders { (r : ℕ) (d : HolderRows) → r < D.ranks dist.now
+        → AreRows (λ i. items_of (holdings 0 (ghost_lists shares.items)) (D.global dist.now r i)) (D.count dist.now r)
+        (slice_index_or holders.items r d).bounds.items (slice_index_or holders.items r d).holders.items }
     ensures { IfOk result (λ parts. Divided (record {
       n = D.n dist.now;
       ranks = D.ranks dist.now;
@@ -93,9 +98,8 @@ fn joined<D: Distribution>(
         graph.now parts.items) }
 {
     let mut parts = Vec::with_capacity(alloc, shares.len())?;
-    for share in shares {
+    for (share, rows) in shares.into_iter().zip(holders) {
         let rank = RankNo(parts.len() as u32);
-        let rows = holder_rows(alloc, holders, &share.vertices)?;
         parts.push(Part::of_share(rank, dist.ranks(), graph.n(), share, rows))?;
     }
     Ok(parts)

@@ -1,49 +1,66 @@
-use Rattle.std.proofs.Common.{◌≡◌, ◌≢◌, ◌+◌, ◌<◌, ◌∙◌, ◌++◌, ◌∷◌, [], ℕ, List, length, get_or, ap, sym, subst, arith}
-use Rattle.std.proofs.lemmas.List.{length_push, append-nil, get_or-set_same, get_or-set_other}
-use Rattle.pg_adj.specs.declared.arcs.Ghost.{Ghost}
-use Rattle.pg_adj.specs.declared.arcs.Holder.{Holder}
-use Rattle.pg_adj.specs.Holdings.{IsPassed}
-use Rattle.pg_adj.specs.Shares.{ghost_lists}
-use Rattle.pg_adj.proofs.HoldersMore.{list_at, lists_below}
-use Rattle.pg_adj.proofs.Merging.{rank_done, slots_moved, slots_left}
-use Rattle.pg_adj.proofs.holders.push_holders.Goals.{then-is_next+in_ok-push, else-is_next}
+use Rattle.std.proofs.Common.{◌<◌, ◌+◌, ◌∷◌, [], ◌++◌, ◌∙◌, ℕ, refl, get_or, vec_len, vec_capacity, ap, arith, rules}
+use Rattle.pg_adj.proofs.Members.{IsTaken, next_below, not_counted, all_counted}
+use Rattle.pg_adj.proofs.PushHolders.{none_pushed, one_pushed, all_held, few_pushed, one_comes}
 use Rattle.pg_adj.proofs.holders.push_holders.Goals as goal
+use Rattle.pg_adj.proofs.holders.push_holders.Goals.{In-Some}
+
+taken : (c : In-Some) → IsTaken c.in-Some.rank.0 c.loop-rank.rest c.pop_first.new.self
+taken c = record { lowest = c.in-Some.ensures.lowest; taken = c.in-Some.ensures.taken; others = c.in-Some.ensures.others }
+
+pub loop-rank-init : goal.loop-rank-init
+loop-rank-init c = record {
+  pushed = none_pushed c.args.set c.args.next_slots.now c.args.rows.now.holders.items c.requires.ranks;
+  bounds = refl;
+  room = refl;
+}
+
+pub bounds-next_slots-rank : goal.bounds-next_slots-rank
+bounds-next_slots-rank c = omega (arith, next_below c.loop-rank.invariant.pushed.moved (taken (goal.at.bounds-next_slots-rank c).In-Some), c.loop-rank.auto.next_slots)
+
+pub push_reserved-requires : goal.push_reserved-requires
+push_reserved-requires c =
+    let more = one_comes c.loop-rank.invariant.pushed (taken (goal.at.push_reserved-requires c).In-Some) in
+    omega (arith, c.loop-rank.rows.holders.ok.0, more, c.requires.room, c.loop-rank.invariant.room)
+
+pub push_reserved-requires-2 : goal.push_reserved-requires-2
+push_reserved-requires-2 c = omega (arith, c.args.rows.now.bounds.ok.0, ap (λ v. vec_len v) c.loop-rank.invariant.bounds, ap (λ v. vec_capacity v) c.loop-rank.invariant.bounds, c.requires.place)
+
+pub overflow_add-next_slots : goal.overflow_add-next_slots
+overflow_add-next_slots c =
+    let here = taken (goal.at.overflow_add-next_slots c).In-Some in
+    let same = not_counted c.loop-rank.invariant.pushed.moved here in
+    let below = next_below c.loop-rank.invariant.pushed.moved here in
+    let few : get_or c.loop-rank.next_slots c.in-Some.rank.0 0 + 1 < 4294967296 = omega (arith, same, c.requires.fits c.in-Some.rank.0 0 below) in
+    search rules
+
+pub bounds-next_slots-rank-in-Some : goal.bounds-next_slots-rank-in-Some
+bounds-next_slots-rank-in-Some c = omega (arith, next_below c.loop-rank.invariant.pushed.moved (taken (goal.at.bounds-next_slots-rank-in-Some c).In-Some), c.loop-rank.auto.next_slots)
 
 pub loop-rank-preserved : goal.loop-rank-preserved
-loop-rank-preserved c =
-    let lists : List (List Ghost) = ghost_lists c.args.shares.now in
-    let k : ℕ = c.loop-rank.rank in
-    let ghosts : List Ghost = c.deref.result.now in
-    let below : k < length lists = lists_below c.args.shares.now k (omega arith) in
-    let at : get_or lists k [] ≡ ghosts = list_at c.args.shares.now k c.index-shares-rank.result ghosts (omega arith) c.index-shares-rank.is c.deref.ensures.value in
-    let slots : List ℕ = c.loop-rank.passed in
-    let slot : ℕ = get_or slots k 0 in
-    let front : List Holder = c.args.holders.now.items in
-    let old : List Holder = c.loop-rank.holders.items in
-    elim c.if-is_next.branch [
-      | then-is_next+in_ok-push w ↦
-          let more : List Holder = record { rank = record { 0 = k }; slot = slot } ∷ [] in
-          let put : c.if-is_next.holders.items ≡ old ++ more = ap (λ v. v.items) w.holders-is ∙ w.in_ok-push.ensures.items in
-          let own : get_or c.if-is_next.passed k 0 ≡ slot + 1 = ap (λ (xs : List ℕ). get_or xs k 0) w.passed-is ∙ get_or-set_same slots k (slot + 1) 0 (omega arith) in
-          let others : (r : ℕ) → r ≢ k → get_or c.if-is_next.passed r 0 ≡ get_or slots r 0 = λ r apart. ap (λ (xs : List ℕ). get_or xs r 0) w.passed-is ∙ get_or-set_other slots k r (slot + 1) 0 apart in
-          record {
-            each = omega (arith, c.if-is_next.auto.passed, c.loop-rank.invariant.each);
-            held = rank_done c.args.v k lists ghosts front old c.if-is_next.holders.items more below at c.loop-rank.invariant.held put (c.is_next.ensures.held w.if-is_next.true k);
-            few = omega (arith, ap length put, length_push old (record { rank = record { 0 = k }; slot = slot }), c.loop-rank.invariant.few);
-            moved = slots_moved c.args.v k lists ghosts slots c.if-is_next.passed at others c.loop-rank.invariant.moved
-                (subst (λ (x : ℕ). IsPassed (c.args.v + 1) ghosts x) (sym own) (c.is_next.ensures.moved w.if-is_next.true));
-            passed = λ r l m. slots_left c.args.v k lists ghosts slots c.if-is_next.passed at others (λ q n o. c.loop-rank.invariant.passed q n (omega arith)) r l (lists_below c.args.shares.now r m);
-          }
-      | else-is_next w ↦
-          let put : c.if-is_next.holders.items ≡ old ++ [] = ap (λ v. v.items) w.holders-is ∙ sym (append-nil old) in
-          let own : get_or c.if-is_next.passed k 0 ≡ slot = ap (λ (xs : List ℕ). get_or xs k 0) w.passed-is in
-          let others : (r : ℕ) → r ≢ k → get_or c.if-is_next.passed r 0 ≡ get_or slots r 0 = λ r apart. ap (λ (xs : List ℕ). get_or xs r 0) w.passed-is in
-          record {
-            each = omega (arith, c.if-is_next.auto.passed, c.loop-rank.invariant.each);
-            held = rank_done c.args.v k lists ghosts front old c.if-is_next.holders.items [] below at c.loop-rank.invariant.held put (c.is_next.ensures.absent w.if-is_next.false k);
-            few = omega (arith, ap (λ v. length v.items) w.holders-is, c.loop-rank.invariant.few);
-            moved = slots_moved c.args.v k lists ghosts slots c.if-is_next.passed at others c.loop-rank.invariant.moved
-                (subst (λ (x : ℕ). IsPassed (c.args.v + 1) ghosts x) (sym own) (c.is_next.ensures.stays w.if-is_next.false));
-            passed = λ r l m. slots_left c.args.v k lists ghosts slots c.if-is_next.passed at others (λ q n o. c.loop-rank.invariant.passed q n (omega arith)) r l (lists_below c.args.shares.now r m);
-          }
-    ]
+loop-rank-preserved c = record {
+  pushed = one_pushed c.loop-rank.invariant.pushed (taken (goal.at.loop-rank-preserved c).In-Some) c.push_reserved.ensures.items;
+  bounds = c.loop-rank.invariant.bounds;
+  room = c.push_reserved.ensures.capacity ∙ c.loop-rank.invariant.room;
+}
+
+pub overflow_cast-len : goal.overflow_cast-len
+overflow_cast-len c =
+    let few : c.len.result < 4294967296 = omega (arith, c.len.ensures, c.loop-rank.rows.holders.ok.0, few_pushed c.loop-rank.invariant.pushed, c.requires.small) in
+    search rules
+
+pub returns-clause-holders : goal.returns-clause-holders
+returns-clause-holders c = all_held c.loop-rank.invariant.pushed (c.in_default.ensures.no_members refl)
+
+pub returns-clause-bounds : goal.returns-clause-bounds
+returns-clause-bounds c =
+    c.push_reserved-2.ensures.items
+    ∙ (ap (λ v. v.items ++ c.len.result ∷ []) c.loop-rank.invariant.bounds ∙ ap (λ (n : ℕ). c.args.rows.now.bounds.items ++ n ∷ []) (omega (arith, c.len.ensures)))
+
+pub returns-clause-next_slots : goal.returns-clause-next_slots
+returns-clause-next_slots c = all_counted c.loop-rank.invariant.pushed.moved (c.in_default.ensures.has_none refl)
+
+pub returns-clause-places : goal.returns-clause-places
+returns-clause-places c = c.push_reserved-2.ensures.capacity ∙ ap (λ v. vec_capacity v) c.loop-rank.invariant.bounds
+
+pub returns-clause-room : goal.returns-clause-room
+returns-clause-room c = c.loop-rank.invariant.room

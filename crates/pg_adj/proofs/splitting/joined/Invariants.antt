@@ -1,8 +1,8 @@
-use Rattle.std.proofs.Common.{◌≡◌, ◌<◌, ◌++◌, ℕ, length, map, slice_index_or}
-use Rattle.std.specs.Vec.Iter.{into_iter_items, into_iter_len}
+use Rattle.std.proofs.Common.{◌≡◌, ◌<◌, ℕ, length, map, slice_index_or}
 use Rattle.pg_adj.specs.Portions.{Portion}
 use Rattle.pg_adj.specs.Division.{IsPartOf}
 use Rattle.pg_adj.specs.Shares.{ghost_lists}
+use Rattle.pg_adj.proofs.SideBySide.{AreYielded}
 use Rattle.pg_adj.proofs.splitting.joined.Given as goal
 
 abbrev pub invariant-loop-share : goal.invariant-loop-share
@@ -17,7 +17,6 @@ invariant-loop-share g l = record {
     global = g.D.Distribution.global l.dist;
   })
       l.graph (ghost_lists l.fn.shares.items) r (slice_index_or l.parts.items r d);
-  ghosts : map (λ p. p.ghosts) l.parts.items ≡ ghost_lists l.yielded;
-  rest : l.yielded ++ into_iter_items l.share-iterator ≡ l.fn.shares.items;
-  left : into_iter_len l.share-iterator ≡ length (into_iter_items l.share-iterator);
+  ghosts : map (λ p. p.ghosts) l.parts.items ≡ ghost_lists (map (λ p. p.0) l.yielded);
+  yielded : AreYielded l.fn.shares.items l.fn.holders.items l.yielded l.share-iterator;
 }

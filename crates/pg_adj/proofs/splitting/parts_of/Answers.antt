@@ -1,13 +1,35 @@
-use Rattle.std.proofs.Common.{subst, sym, List, ◌∙◌}
+use Rattle.std.proofs.Common.{◌∙◌, List, length, get_or, ap, subst, sym}
+use Rattle.pg_adj.specs.declared.rank_sets.RankSet.{RankSet}
 use Rattle.pg_adj.specs.declared.shares.Share.{Share}
 use Rattle.pg_adj.specs.Division.{Sharing}
-use Rattle.pg_adj.specs.Shares.{ghost_lists, AreGhostLists}
+use Rattle.pg_adj.specs.RankSets.{HaveRanksBelow}
 use Rattle.pg_adj.proofs.Laws.{Laws}
-use Rattle.pg_adj.proofs.PartsOf.{AreSharesOf, lists_ok}
+use Rattle.pg_adj.proofs.SplitBySets.{share_of_sets, holders_of_sets}
 use Rattle.pg_adj.proofs.splitting.parts_of.Goals as goal
 
-pub holdings_by_vertex-requires-clause-ghosts : goal.holdings_by_vertex-requires-clause-ghosts
-holdings_by_vertex-requires-clause-ghosts g c =
+pub joined-requires-clause-share : goal.joined-requires-clause-share
+joined-requires-clause-share g c = λ r d l.
+    let s : Sharing = record {
+      n = g.D.Distribution.n c.args.dist.now;
+      ranks = g.D.Distribution.ranks c.args.dist.now;
+      owner = g.D.Distribution.owner c.args.dist.now;
+      local = g.D.Distribution.local c.args.dist.now;
+      count = g.D.Distribution.count c.args.dist.now;
+      global = g.D.Distribution.global c.args.dist.now;
+    } in
+    let shares : List Share = c.in_ok-shares.shares.items in
+    share_of_sets s c.args.graph.now.edges c.in_ok-rows.rows.items c.deref.result.now c.in_ok-sets.sets.items c.deref-2.result.now r d.rows (get_or shares r d)
+    c.deref.ensures.value c.deref-2.ensures.value l
+    (record {
+      count = c.in_ok-shares.ensures.own r d l;
+      vertex = λ i m. c.in_ok-shares.ensures.vertex r i d l m;
+      own = λ e. c.in_ok-shares.ensures.rows r d e l;
+      ghosts = c.in_ok-shares.ensures.ghosts r d l;
+    })
+    (c.in_ok-rows.ensures.row r d.rows l) c.in_ok-sets.ensures.sets
+
+pub joined-requires-clause-holders : goal.joined-requires-clause-holders
+joined-requires-clause-holders g c = λ r d l.
     let s : Sharing = record {
       n = g.D.Distribution.n c.args.dist.now;
       ranks = g.D.Distribution.ranks c.args.dist.now;
@@ -27,6 +49,10 @@ holdings_by_vertex-requires-clause-ghosts g c =
       local_of_global = g.met.D.Distribution.local_of_global c.args.dist.now;
       global_ascends = g.met.D.Distribution.global_ascends c.args.dist.now;
     } in
-    let are : AreSharesOf s c.args.graph.now.edges c.in_ok-shares.shares.items = record { each = c.in_ok-shares.ensures.count; share = c.in_ok-shares.ensures.share } in
-    subst (λ (xs : List Share). AreGhostLists c.n.result (ghost_lists xs)) (sym c.deref.ensures.value)
-    (lists_ok s laws c.args.graph.now.edges c.in_ok-shares.shares.items c.n.result c.in_ok-shares.ensures.few (c.n.ensures.value ∙ c.requires) are)
+    let sets : List RankSet = c.in_ok-sets.sets.items in
+    let seen : List RankSet = c.deref-2.result.now in
+    let shares : List Share = c.in_ok-shares.shares.items in
+    let group : HaveRanksBelow s.ranks seen = subst (λ (ss : List RankSet). HaveRanksBelow s.ranks ss) (sym c.deref-2.ensures.value) c.in_ok-sets.ensures.ranks in
+    holders_of_sets s laws c.in_ok-rows.ensures.few c.deref-3.result.now seen shares (c.deref-2.ensures.value ∙ sym c.deref-3.ensures.value)
+    (ap length c.deref-2.ensures.value ∙ c.in_ok-sets.ensures.each) group c.in_ok-shares.ensures.count c.in_ok-shares.ensures.ghosts r l
+    (get_or c.in_ok-holders.holders.items r d).bounds.items (get_or c.in_ok-holders.holders.items r d).holders.items (c.in_ok-holders.ensures.row r d l)
