@@ -1,4 +1,4 @@
-ghost use Rattle.std.specs.Prelude.{◌≡◌, ◌&&◌, ◌||◌, Bool, true, false, IfOk, OnErr};
+ghost use Rattle.std.specs.Prelude.{◌≡◌, ◌&&◌, ◌||◌, true, false, IfOk, OnErr};
 ghost use Rattle.pg_cells.specs.Consistency.{contradicts};
 
 /// The consistency model of a map: what its ranks send each other, and what a synchronize leaves in the ghosts.

@@ -1,4 +1,4 @@
-ghost use Rattle.std.specs.Prelude.{◌≡◌, ℕ, ◌^◌, ◌-◌, min, max};
+ghost use Rattle.std.specs.Prelude.{◌≡◌, ℕ, min, max};
 
 use pg_base::Vertex;
 
