@@ -26,6 +26,7 @@ arc_from owner local v e k = record {
   edge = k;
 }
 
+-- What stands for an edge past the end of a list.
 abbrev pub no_edge : Edge
 no_edge = record { u = 0; v = 0; w = 0 }
 
@@ -49,6 +50,7 @@ abbrev pub vertices_to : ℕ → List ℕ
 vertices_to zero = []
 vertices_to (suc n) = vertices_to n ++ (n + 1) ∷ []
 
+-- The vertex v as a ghost.
 abbrev pub ghost_of : (ℕ → ℕ) → (ℕ → ℕ) → ℕ → Ghost
 ghost_of owner local v = record { vertex = record { 0 = v }; home = record { 0 = owner v }; place = local v }
 

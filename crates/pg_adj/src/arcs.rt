@@ -1,3 +1,5 @@
+//! What the parts of a divided graph consist of.
+
 use pg_base::{RankNo, Vertex};
 
 /// One direction of an edge, as it is kept at the rank that owns the vertex from which it leads.

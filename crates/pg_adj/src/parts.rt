@@ -1,3 +1,5 @@
+//! One rank's part of a divided graph.
+
 ghost use Rattle.std.specs.Prelude.{◌≡◌, ◌≢◌, ◌<◌, ◌≤◌, All, AllPairs, length, slice_index};
 ghost use Rattle.pg_adj.specs.Portions.{IsOwnArc, IsForeign, IsVertex, IsPortion};
 ghost use Rattle.pg_base.specs.Keyed.{row_of};

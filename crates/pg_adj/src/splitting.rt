@@ -1,3 +1,5 @@
+//! Dividing a graph among ranks.
+
 ghost use Rattle.std.specs.Prelude.{◌≡◌, ℕ, ◌<◌, ◌≤◌, length, IfOk, slice_index_or};
 ghost use Rattle.pg_base.specs.declared.TheConstants.{MAX_RANKS};
 ghost use Rattle.pg_adj.specs.Division.{AreRows, Divided};
@@ -62,7 +64,7 @@ fn parts_of<D: Distribution>(
     joined(alloc, graph, dist, shares, holders)
 }
 
-// The shares with their holders.
+// Each rank's part: its share with the holders of its vertices.
 fn joined<D: Distribution>(
     alloc: Global,
     graph: &EdgeList,
