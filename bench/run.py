@@ -10,9 +10,10 @@ program the least of three interleaved runs counts: seconds for the whole, megab
 memory. Both write one line a system call, to the null device. Boost.Graph is Debian's libboost-graph-dev;
 where it or g++ is missing that program is skipped. The outputs are compared once.
 
-divide: the file has 1,048,576 vertices and 8,388,608 edges by the seeded rule. For each number of ranks and each
-layout the least of three interleaved runs counts: milliseconds of reading and of dividing, peak memory, and the
-memory beside the edge list (12 bytes an edge) and the arcs (40 bytes an edge).
+divide: one file has 1,048,576 vertices and 8,388,608 edges by the seeded rule, the other is a band of as many vertices, each
+joined to the next eight. For each number of ranks and each layout the least of three interleaved runs counts: milliseconds
+of reading and of dividing, peak memory, and the memory beside the edge list (12 bytes an edge) and the arcs (40 bytes an
+edge).
 
 traffic: in each round every rank sends one item and one mark to every other; a run on the caller's thread sends about
 16 million messages. For each number of ranks the least of three interleaved runs counts: messages a second.
@@ -82,7 +83,9 @@ def timed(words):
     return [int(time) for time in re.findall(r"(\d+) ms", times)], usage.ru_maxrss * 1024 / 1e6, counts.strip()
 
 
-def report_divisions(file, edges, program, rounds):
+def report_divisions(name, file, program, rounds):
+    with open(file, encoding="ascii") as handle:
+        edges = int(handle.readline().split()[1])
     best = {}
     for _ in range(rounds):
         for ranks in (1, 4, 32):
@@ -91,8 +94,8 @@ def report_divisions(file, edges, program, rounds):
                 was = best.get((ranks, layout), (reading, dividing))
                 best[ranks, layout] = min(reading, was[0]), min(dividing, was[1]), memory, counts
     for (ranks, layout), (reading, dividing, memory, counts) in best.items():
-        print("%2d %-6s reading %5d ms, dividing %5d ms, %4.0f MB, %4.0f MB beside; %s"
-              % (ranks, layout, reading, dividing, memory, memory - 52e-6 * edges, counts))
+        print("%-6s %2d %-6s reading %5d ms, dividing %5d ms, %4.0f MB, %4.0f MB beside; %s"
+              % (name, ranks, layout, reading, dividing, memory, memory - 52e-6 * edges, counts))
 
 
 def report_traffic(program, rounds):
@@ -130,7 +133,7 @@ def searches(make, folder, given):
                     "--source", "1"], stdout=subprocess.DEVNULL, check=True)
     pbgl = os.path.join(TOP, "crates", "pbgl", "out", "pbgl")
     boost = compiled("bfs_boost.cpp", folder)
-    kinds = {"random": ["random", str(given.vertices), str(given.edges), "1"], "path": ["path", str(given.vertices)]}
+    kinds = {"random": ["random", str(given.vertices), str(given.edges), "1"], "path": ["band", str(given.vertices), "1"]}
     for name, words in kinds.items():
         file = made(make, folder, name, words)
         programs = {"pbgl": [pbgl, "bfs", file, "--source", "1"]}
@@ -140,9 +143,9 @@ def searches(make, folder, given):
 
 
 def divisions(make, folder, given):
-    vertices, edges = 1 << 20, 1 << 23
-    file = made(make, folder, "greatest", ["random", str(vertices), str(edges), "1"])
-    report_divisions(file, edges, built("pg_bench"), given.rounds)
+    vertices, edges = str(1 << 20), str(1 << 23)
+    for name, words in {"random": ["random", vertices, edges, "1"], "band": ["band", vertices, "8"]}.items():
+        report_divisions(name, made(make, folder, name, words), built("pg_bench"), given.rounds)
 
 
 def maps(make, folder, given):
