@@ -1,9 +1,9 @@
 #!/usr/bin/env python3
 """Runs `pbgl bfs` on two big files, beside the same job by a short C++ program over Boost.Graph, and `pg_bench`,
 which reads a file of the greatest size and divides its graph among ranks, lets ranks send each other messages, and
-synchronizes a property map.
+synchronizes a property map. `pg_queues` sends messages through one lane.
 
-    python3 bench/run.py [--only bfs|divide|traffic|cells] [--vertices N] [--edges M] [--rounds K]
+    python3 bench/run.py [--only bfs|divide|lane|traffic|cells] [--vertices N] [--edges M] [--rounds K] [--beside PROGRAM]
 
 bfs: the files have 1,000,000 vertices, one with 8,000,000 edges by a seeded rule and one in a row. For each
 program the least of three interleaved runs counts: seconds for the whole, megabytes of the file a second, peak
@@ -15,8 +15,13 @@ joined to the next eight. For each number of ranks and each layout the least of 
 of reading and of dividing, peak memory, and the memory beside the edge list (12 bytes an edge) and the arcs (40 bytes an
 edge).
 
+lane: 4,096,000 numbered messages go through one queue, from one thread to another and on one thread, which fills the queue
+and empties it in turn: through a lane of 1,024 and of 4 messages, and through the kit's `rtrb` and `crossbeam_queue` of the
+same capacities. For each the least of three interleaved runs counts: messages a second.
+
 traffic: in each round every rank sends one item and one mark to every other; a run on the caller's thread sends about
-16 million messages. For each number of ranks the least of three interleaved runs counts: messages a second.
+16 million messages. For each number of ranks the least of three interleaved runs counts: messages a second. With --beside
+another built `pg_bench`, as one of an earlier commit, runs in between.
 
 cells: the file has 1,000,000 vertices and 8,000,000 edges by the seeded rule, and 4 ranks have it in blocks. A value is
 put to each cell of each rank, own vertex or ghost, and the map is synchronized with forward and backward, on the caller's
@@ -98,16 +103,32 @@ def report_divisions(name, file, program, rounds):
               % (name, ranks, layout, reading, dividing, memory, memory - 52e-6 * edges, counts))
 
 
-def report_traffic(program, rounds):
+def report_traffic(programs, rounds):
     best = {}
     for _ in range(rounds):
         for ranks in (2, 4, 8):
             turns = 16_000_000 // (2 * ranks * (ranks - 1))
-            (running,), _, counts = timed([program, "traffic", str(ranks), str(turns)])
-            best[ranks] = min(best.get(ranks, (running, counts)), (running, counts))
-    for ranks, (running, counts) in best.items():
-        print("%2d ranks %s in %5d ms, %.1f million a second"
-              % (ranks, counts, running, int(counts.split()[0]) / running / 1000))
+            for name, program in programs.items():
+                (running,), _, counts = timed([program, "traffic", str(ranks), str(turns)])
+                best[ranks, name] = min(best.get((ranks, name), (running, counts)), (running, counts))
+    for (ranks, name), (running, counts) in best.items():
+        print("%2d ranks %s in %5d ms, %.1f million a second%s"
+              % (ranks, counts, running, int(counts.split()[0]) / running / 1000, name))
+
+
+def report_lane(program, rounds):
+    messages, best = 4_096_000, {}
+    for _ in range(rounds):
+        for capacity in (1024, 4):
+            for kind in ("lane", "rtrb", "crossbeam"):
+                (two, one), _, counts = timed([program, kind, str(capacity), str(messages)])
+                if counts != "%d and %d in order" % (messages, messages):
+                    sys.exit("%s of %d: %s" % (kind, capacity, counts))
+                was = best.get((capacity, kind), (two, one))
+                best[capacity, kind] = min(two, was[0]), min(one, was[1])
+    for (capacity, kind), times in best.items():
+        print("%-9s of %4d: %5.1f million a second between two threads, %5.1f on one"
+              % ((kind, capacity) + tuple(messages / max(time, 1) / 1000 for time in times)))
 
 
 def report_cells(file, program, rounds):
@@ -158,11 +179,17 @@ def main():
     parser.add_argument("--vertices", type=int, default=1_000_000)
     parser.add_argument("--edges", type=int, default=8_000_000)
     parser.add_argument("--rounds", type=int, default=3)
-    parser.add_argument("--only", choices=["bfs", "divide", "traffic", "cells"])
+    parser.add_argument("--only", choices=["bfs", "divide", "lane", "traffic", "cells"])
+    parser.add_argument("--beside")
     given = parser.parse_args()
+    if given.only in (None, "lane"):
+        report_lane(built("pg_queues"), given.rounds)
     if given.only in (None, "traffic"):
-        report_traffic(built("pg_bench"), given.rounds)
-    if given.only == "traffic":
+        programs = {"": built("pg_bench")}
+        if given.beside:
+            programs[" beside"] = given.beside
+        report_traffic(programs, given.rounds)
+    if given.only in ("lane", "traffic"):
         return
     with tempfile.TemporaryDirectory() as folder:
         make = compiled("make_graph.cpp", folder)

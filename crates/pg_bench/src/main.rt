@@ -29,7 +29,7 @@ use layouts::{Layout, random_owners};
 use pg_adj::split;
 use pg_base::{EdgeList, OpenGate, Ranks};
 use pg_dist::{Block, Distribution, Listed};
-use pg_lane::ArrayLanes;
+use pg_lane::RingLanes;
 use pg_metis::{GraphFault, read_graph};
 use pg_outside::{FileInputs, Inputs};
 use pg_run::run;
@@ -128,7 +128,7 @@ fn measure_traffic<R: Wait + Clock + Print + Eprint + AllocGlobal + Copy + Send>
     rt: &R,
     job: Traffic,
 ) -> io::Result<()> {
-    let Ok(group) = group_of_rolls(rt, rt.alloc(), job) else {
+    let Ok(group) = group_of_rolls(rt.alloc(), job) else {
         return Err(ErrorKind::OutOfMemory.into());
     };
     let start = Instant::now(rt)?;
@@ -139,7 +139,7 @@ fn measure_traffic<R: Wait + Clock + Print + Eprint + AllocGlobal + Copy + Send>
 }
 
 // Fills and synchronizes a property map of so many ranks, and prints how many cells it has and how long it took.
-fn measure_map<R: Wait + Clock + Print + Eprint + AllocGlobal + Copy + Send>(
+fn measure_map<R: Clock + Print + Eprint + AllocGlobal + Copy + Send>(
     rt: &R,
     graph: &EdgeList,
     ranks: Ranks,
@@ -147,7 +147,7 @@ fn measure_map<R: Wait + Clock + Print + Eprint + AllocGlobal + Copy + Send>(
     let Ok(parts) = blocks(rt.alloc(), graph, ranks) else {
         return Err(ErrorKind::OutOfMemory.into());
     };
-    let Ok(mut sites) = sites_of::<ArrayLanes<R>>(rt, rt.alloc(), &parts, ranks) else {
+    let Ok(mut sites) = sites_of::<RingLanes>(&(), rt.alloc(), &parts, ranks) else {
         return Err(ErrorKind::OutOfMemory.into());
     };
     let start = Instant::now(rt)?;

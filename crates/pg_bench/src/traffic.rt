@@ -8,25 +8,20 @@ ghost use Rattle.pg_bench.specs.Counts.{sent_down};
 use crate::jobs::Traffic;
 use pg_base::{OutOfMemory, RankNo, Ranks};
 use pg_group::{Envelope, Program, Roll};
-use pg_lane::{ArrayLanes, Settled};
+use pg_lane::{RingLanes, Settled};
 use pg_run::{Group, assemble};
 use std::alloc::Global;
-use std::sync::Wait;
 
 // How many messages a lane holds.
 const CAPACITY: u32 = 64;
 
 /// A group of rolls, one for each rank, that is ready to run.
-pub fn group_of_rolls<R: Wait + Copy + Send>(
-    token: &R,
-    alloc: Global,
-    job: Traffic,
-) -> Result<Group<Roll, ArrayLanes<R>>, OutOfMemory>
+pub fn group_of_rolls(alloc: Global, job: Traffic) -> Result<Group<Roll, RingLanes>, OutOfMemory>
     ensures ready { IfOk result (λ group. AreReady group.runners.items) }
     ensures room { IfOk result (λ group. HasRoom (length group.runners.items) group.programs group.ports group.lanes) }
 {
     let programs = rolls(alloc, job.ranks, job.rounds.get())?;
-    assemble::<Roll, ArrayLanes<R>>(token, alloc, programs, CAPACITY)
+    assemble::<Roll, RingLanes>(&(), alloc, programs, CAPACITY)
 }
 
 // The rolls of all ranks of a group, for so many rounds.

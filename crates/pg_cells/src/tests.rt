@@ -11,12 +11,12 @@ use pg_adj::{Part, split};
 use pg_base::{Edge, EdgeList, RankNo, Ranks, Vertex};
 use pg_dist::Block;
 use pg_group::{Envelope, Mailbox, Polled, Port, Worked, ports};
-use pg_lane::{ArrayLanes, LaneKind};
+use pg_lane::{LaneKind, RingLanes};
 use std::alloc::Global;
 use std::process::Abort;
 use std::test::Fail;
 
-type Lanes = ArrayLanes<HostRuntime>;
+type Lanes = RingLanes;
 
 type Values = Vec<Option<u64>>;
 
@@ -375,7 +375,7 @@ fn two_ranks_hold_what_the_flags_say_after_a_synchronize(rt: HostRuntime) -> Res
         (flags(CLEAR).map_err(|_| "refused flags")?, Some(4), None),
     ];
     for (flags, owner, other) in cases {
-        let mut sites = pair::<LeastWins, Lanes>(&rt, rt.alloc(), LeastWins, flags)?;
+        let mut sites = pair::<LeastWins, Lanes>(&(), rt.alloc(), LeastWins, flags)?;
         put(&mut sites, 0, FIRST, 4)?;
         put(&mut sites, 1, FIRST, 5)?;
         put(&mut sites, 1, FIRST, 3)?;
@@ -442,7 +442,7 @@ fn three_ranks_hold_what_each_permitted_combination_says(rt: HostRuntime) -> Res
     ];
     for (words, owner, second, third) in cases {
         let flags = flags(words).map_err(|_| "refused flags")?;
-        let mut sites = trio::<LeastWins, Lanes>(&rt, rt.alloc(), LeastWins, flags)?;
+        let mut sites = trio::<LeastWins, Lanes>(&(), rt.alloc(), LeastWins, flags)?;
         put(&mut sites, 0, FIRST, 6)?;
         put(&mut sites, 1, FIRST, 5)?;
         put(&mut sites, 1, FIRST, 3)?;
@@ -480,7 +480,7 @@ fn an_own_cell_gets_what_was_put_with_forward_and_the_ghost_with_flush(
 ) -> Result<(), Fail> {
     for (words, owner) in [(FORWARD, 5), (FLUSH, 1)] {
         let flags = flags(words).map_err(|_| "refused flags")?;
-        let mut sites = pair::<LeastWins, Lanes>(&rt, rt.alloc(), LeastWins, flags)?;
+        let mut sites = pair::<LeastWins, Lanes>(&(), rt.alloc(), LeastWins, flags)?;
         handle(
             &mut sites,
             1,
@@ -500,7 +500,7 @@ fn an_own_cell_gets_what_was_put_with_forward_and_the_ghost_with_flush(
 #[test]
 fn an_emptied_ghost_takes_its_first_put_as_it_is(rt: HostRuntime) -> Result<(), Fail> {
     let flags = flags(CLEAR).map_err(|_| "refused flags")?;
-    let mut sites = pair::<LeastFrom, Lanes>(&rt, rt.alloc(), LeastFrom { start: 7 }, flags)?;
+    let mut sites = pair::<LeastFrom, Lanes>(&(), rt.alloc(), LeastFrom { start: 7 }, flags)?;
     put(&mut sites, 1, FIRST, 9)?;
     assert_eq!(rt;
         firsts(rt.alloc(), &sites)?.as_slice(),
@@ -522,7 +522,7 @@ fn an_emptied_ghost_takes_its_first_put_as_it_is(rt: HostRuntime) -> Result<(), 
 #[test]
 fn a_body_out_of_range_changes_nothing(rt: HostRuntime) -> Result<(), Fail> {
     let flags = flags(NONE).map_err(|_| "refused flags")?;
-    let mut sites = pair::<GreatestWins, Lanes>(&rt, rt.alloc(), GreatestWins, flags)?;
+    let mut sites = pair::<GreatestWins, Lanes>(&(), rt.alloc(), GreatestWins, flags)?;
     handle(
         &mut sites,
         0,
@@ -564,7 +564,7 @@ fn a_body_out_of_range_changes_nothing(rt: HostRuntime) -> Result<(), Fail> {
 #[test]
 fn the_last_value_wins_where_it_should(rt: HostRuntime) -> Result<(), Fail> {
     let flags = Flags::bidirectional();
-    let mut sites = pair::<LastWins, Lanes>(&rt, rt.alloc(), LastWins { start: 8 }, flags)?;
+    let mut sites = pair::<LastWins, Lanes>(&(), rt.alloc(), LastWins { start: 8 }, flags)?;
     assert_eq!(rt;
         firsts(rt.alloc(), &sites)?.as_slice(),
         [Some(8), Some(8)].as_slice()
@@ -596,7 +596,7 @@ fn several_puts_are_owed_as_one_and_cells_go_to_each_holder_once(
     rt: HostRuntime,
 ) -> Result<(), Fail> {
     let flags = Flags::bidirectional();
-    let mut sites = trio::<LeastWins, Lanes>(&rt, rt.alloc(), LeastWins, flags)?;
+    let mut sites = trio::<LeastWins, Lanes>(&(), rt.alloc(), LeastWins, flags)?;
     put(&mut sites, 1, FIRST, 5)?;
     put(&mut sites, 1, FIRST, 3)?;
     put(&mut sites, 1, Vertex(2), 3)?;
@@ -616,7 +616,7 @@ fn several_puts_are_owed_as_one_and_cells_go_to_each_holder_once(
 #[test]
 fn a_rank_knows_its_own_vertices_and_its_ghosts(rt: HostRuntime) -> Result<(), Fail> {
     let sites = trio::<LeastWins, Lanes>(
-        &rt,
+        &(),
         rt.alloc(),
         LeastWins,
         flags(NONE).map_err(|_| "refused flags")?,

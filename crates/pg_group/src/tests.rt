@@ -4,16 +4,16 @@ ghost use Rattle.pg_group.specs.Supersteps.{AreUnmarked};
 
 use super::*;
 use pg_base::{RankNo, Ranks};
-use pg_lane::{ArrayLanes, Full};
+use pg_lane::{Full, RingLanes};
 use std::test::*;
 
 #[test]
 fn a_group_has_a_port_for_each_rank(rt: HostRuntime) -> Result<(), Fail> {
     for count in [1, 2, 3, 32] {
         let ranks = Ranks::new(count).ok_or("no number of ranks")?;
-        let narrow = ports::<u32, ArrayLanes<HostRuntime>>(&rt, rt.alloc(), ranks, 1)?;
+        let narrow = ports::<u32, RingLanes>(&(), rt.alloc(), ranks, 1)?;
         assert_eq!(rt; narrow.len(), count as usize);
-        let wide = ports::<u32, ArrayLanes<HostRuntime>>(&rt, rt.alloc(), ranks, 1024)?;
+        let wide = ports::<u32, RingLanes>(&(), rt.alloc(), ranks, 1024)?;
         assert_eq!(rt; wide.len(), count as usize);
     }
     Ok(())
@@ -82,7 +82,7 @@ fn end_round<M: Mailbox<u32>>(port: &mut M, other: RankNo) -> bool
 #[test]
 fn a_round_of_two_ranks_ends_with_their_marks(rt: HostRuntime) -> Result<(), Fail> {
     let ranks = Ranks::new(2).ok_or("no number of ranks")?;
-    let mut group = ports::<u32, ArrayLanes<HostRuntime>>(&rt, rt.alloc(), ranks, 2)?;
+    let mut group = ports::<u32, RingLanes>(&(), rt.alloc(), ranks, 2)?;
     let mut right = group.pop().ok_or("no right port")?;
     let mut left = group.pop().ok_or("no left port")?;
     let (sends, polls) = send_right(&mut left, &mut right);
@@ -141,7 +141,7 @@ fn a_roll_sends_one_number_a_round_and_counts_what_it_gets(rt: HostRuntime) -> R
         d: 0,
     };
     let ranks = Ranks::new(2).ok_or("no number of ranks")?;
-    let mut group = ports::<u32, ArrayLanes<HostRuntime>>(&rt, rt.alloc(), ranks, 2)?;
+    let mut group = ports::<u32, RingLanes>(&(), rt.alloc(), ranks, 2)?;
     let mut right = group.pop().ok_or("no right port")?;
     let mut left = group.pop().ok_or("no left port")?;
     let mut roll = Roll::new(LEFT, ranks, 1);

@@ -1,1 +1,6 @@
-pub mod InOrder
+pub mod Order
+pub mod Places
+pub mod Moves
+pub mod Writing
+pub mod Reading
+pub mod Meeting

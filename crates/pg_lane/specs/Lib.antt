@@ -1,2 +1,4 @@
-pub mod Lines
+pub mod EndLater
+pub mod Later
+pub mod Ring
 pub mod Settled

@@ -2,15 +2,18 @@
 //! The list of the messages taken, followed by what the lane holds, is always the list of those sent.
 #![tactic(auto)]
 
-mod arrays;
 mod ends;
 mod kinds;
-mod logs;
+pub mod laws;
+mod rings;
+mod rules;
 mod settling;
+mod showing;
 #[cfg(test)]
 mod tests;
 
-pub use arrays::{ArrayIn, ArrayLanes, ArrayOut};
 pub use ends::{Full, InEnd, OutEnd};
 pub use kinds::LaneKind;
+pub use rings::{RingIn, RingLanes, RingOut};
 pub use settling::Settled;
+pub use showing::{Shown, Shows};

@@ -1,20 +1,21 @@
 ghost use Rattle.std.specs.Prelude.{◌≡◌, ◌+◌, ◌-◌, ◌%◌, ◌^◌, ◌≤◌, length, take};
-ghost use Rattle.crossbeam_queue.specs.Passes.{view};
 
-use crate::logs::Place;
+use crate::Shown;
+use std::collections::LinkedList;
 
 /// A lane that has ended. What was taken is the front of what was sent, and no more messages than the
 /// lane's capacity were sent and not taken.
 #[derive(Drop)]
 pub struct Settled<M> {
-    place: Place<M>,
+    sent: Shown<LinkedList<M>>,
+    taken: Shown<LinkedList<M>>,
     capacity: usize,
     pushed: u64,
     left: u64,
-    pub ghost prefix: { (view place).taken ≡ take (length (view place).taken) (view place).sent },
-    pub ghost rest: { length (view place).taken + left ≡ length (view place).sent },
+    pub ghost prefix: { taken.value ≡ take (length taken.value) sent.value },
+    pub ghost rest: { length taken.value + left ≡ length sent.value },
     pub ghost within: { left ≤ capacity },
-    pub ghost counted: { pushed ≡ length (view place).sent % 2 ^ 64 },
+    pub ghost counted: { pushed ≡ length sent.value % 2 ^ 64 },
 }
 
 impl<M> Settled<M> {
@@ -37,22 +38,30 @@ impl<M> Settled<M> {
 
 impl<M> Settled<M> {
     ghost use Rattle.std.specs.Prelude.{◌≡◌, ◌++◌, ◌+◌, ◌%◌, ◌^◌, ◌≤◌, length, List};
-    ghost use Rattle.pg_lane.specs.Settled.{settled_sent, settled_taken};
+    ghost use Rattle.pg_lane.specs.Settled.{settled_sent, settled_taken, settled_capacity};
 
-    // The lane that ended with `left` messages in its queue.
-    pub(crate) fn new(place: Place<M>, capacity: usize, pushed: u64, left: usize) -> Settled<M>
+    /// The lane, of whatever kind, that ended with these lists and this capacity: so many messages, modulo 2^64, were pushed,
+    /// and so many were left in it.
+    pub fn new(
+        sent: Shown<LinkedList<M>>,
+        taken: Shown<LinkedList<M>>,
+        capacity: usize,
+        pushed: u64,
+        left: u64,
+    ) -> Settled<M>
         requires within { left ≤ capacity }
-        requires counted { pushed ≡ length (view place).sent % 2 ^ 64 }
-        requires rest { (items : List M) × (length items ≡ left) × ((view place).sent ≡ (view place).taken ++ items) }
-        ensures sent { settled_sent result ≡ (view place).sent }
-        ensures taken { settled_taken result ≡ (view place).taken }
-        ensures capacity { result.capacity ≡ capacity }
+        requires counted { pushed ≡ length sent.value % 2 ^ 64 }
+        requires rest { (items : List M) × (length items ≡ left) × (sent.value ≡ taken.value ++ items) }
+        ensures sent { settled_sent result ≡ sent.value }
+        ensures taken { settled_taken result ≡ taken.value }
+        ensures capacity { settled_capacity result ≡ capacity }
     {
         Settled {
-            place,
+            sent,
+            taken,
             capacity,
             pushed,
-            left: left as u64,
+            left,
         }
     }
 }

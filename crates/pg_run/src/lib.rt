@@ -8,6 +8,8 @@ mod groups;
 mod marking;
 mod outlets;
 mod polling;
+#[cfg(test)]
+mod ring_tests;
 mod runners;
 mod running;
 #[cfg(test)]

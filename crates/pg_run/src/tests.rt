@@ -5,14 +5,14 @@ ghost use Rattle.pg_group.specs.Entries.{Each};
 use crate::{Turn, assemble, drive, run};
 use pg_base::{OpenGate, OutOfMemory, RankNo, Ranks};
 use pg_group::{Program, Roll};
-use pg_lane::ArrayLanes;
+use pg_lane::RingLanes;
 use std::alloc::Global;
 use std::test::Fail;
 
-type Lanes = ArrayLanes<HostRuntime>;
+type Lanes = RingLanes;
 
 // The rolls of all ranks of a group, for this many rounds.
-fn rolls(alloc: Global, ranks: Ranks, rounds: u32) -> Result<Vec<Roll>, OutOfMemory>
+pub(crate) fn rolls(alloc: Global, ranks: Ranks, rounds: u32) -> Result<Vec<Roll>, OutOfMemory>
     requires { 1 ≤ rounds }
     ensures count { IfOk result (λ rolls. length rolls.items ≡ ranks) }
     ensures new { IfOk result (λ rolls. Each (λ rank p. ⟦<Roll as Program>⟧.IsNew p) rolls.items) }
@@ -33,7 +33,7 @@ fn rolls(alloc: Global, ranks: Ranks, rounds: u32) -> Result<Vec<Roll>, OutOfMem
 fn each_rank_takes_what_the_two_others_send(rt: HostRuntime) -> Result<(), Fail> {
     let ranks = Ranks::new(3).ok_or("no number of ranks")?;
     let programs = rolls(rt.alloc(), ranks, 1)?;
-    let group = assemble::<Roll, Lanes>(&rt, rt.alloc(), programs, 1)?;
+    let group = assemble::<Roll, Lanes>(&(), rt.alloc(), programs, 1)?;
     let finished = run(&rt, group, 1, &OpenGate);
     assert_eq!(rt; finished.programs.len(), 3);
     for program in &finished.programs {
@@ -51,7 +51,7 @@ fn each_rank_takes_what_the_two_others_send(rt: HostRuntime) -> Result<(), Fail>
 fn one_rank_runs_without_lanes(rt: HostRuntime) -> Result<(), Fail> {
     let ranks = Ranks::new(1).ok_or("no number of ranks")?;
     let programs = rolls(rt.alloc(), ranks, 3)?;
-    let group = assemble::<Roll, Lanes>(&rt, rt.alloc(), programs, 1)?;
+    let group = assemble::<Roll, Lanes>(&(), rt.alloc(), programs, 1)?;
     let finished = run(&rt, group, 1, &OpenGate);
     assert_eq!(rt; finished.programs.len(), 1);
     assert_eq!(rt; finished.lanes.len(), 0);
@@ -62,7 +62,7 @@ fn one_rank_runs_without_lanes(rt: HostRuntime) -> Result<(), Fail> {
 fn a_machine_waits_while_its_lane_is_full(rt: HostRuntime) -> Result<(), Fail> {
     let ranks = Ranks::new(2).ok_or("no number of ranks")?;
     let programs = rolls(rt.alloc(), ranks, 1)?;
-    let mut group = assemble::<Roll, Lanes>(&rt, rt.alloc(), programs, 1)?;
+    let mut group = assemble::<Roll, Lanes>(&(), rt.alloc(), programs, 1)?;
     let first = group.machines().first_mut().ok_or("no machine")?;
     assert_eq!(rt; first.next_turn(), 1);
     assert_eq!(rt; first.turn(), Turn::Moved);

@@ -5,14 +5,14 @@ ghost use Rattle.pg_group.specs.Entries.{Each};
 use crate::Pair;
 use pg_base::{OpenGate, OutOfMemory, RankNo, Ranks};
 use pg_group::{Program, Roll};
-use pg_lane::ArrayLanes;
+use pg_lane::RingLanes;
 use pg_run::{Turn, assemble, drive, run};
 use std::alloc::Global;
 use std::test::Fail;
 
 type Rolls = Pair<Roll, Roll>;
 
-type Lanes = ArrayLanes<HostRuntime>;
+type Lanes = RingLanes;
 
 // For each rank of a group a roll of one round with a roll of two.
 fn pairs(alloc: Global, ranks: Ranks) -> Result<Vec<Rolls>, OutOfMemory>
@@ -36,7 +36,7 @@ fn pairs(alloc: Global, ranks: Ranks) -> Result<Vec<Rolls>, OutOfMemory>
 fn each_lane_of_two_ranks_has_three_items_and_two_marks(rt: HostRuntime) -> Result<(), Fail> {
     let ranks = Ranks::new(2).ok_or("no number of ranks")?;
     let programs = pairs(rt.alloc(), ranks)?;
-    let group = assemble::<Rolls, Lanes>(&rt, rt.alloc(), programs, 4)?;
+    let group = assemble::<Rolls, Lanes>(&(), rt.alloc(), programs, 4)?;
     let finished = run(&rt, group, 1, &OpenGate);
     assert_eq!(rt; finished.programs.len(), 2);
     for program in &finished.programs {
@@ -55,7 +55,7 @@ fn each_lane_of_two_ranks_has_three_items_and_two_marks(rt: HostRuntime) -> Resu
 fn a_pair_of_three_ranks_takes_what_the_two_others_send(rt: HostRuntime) -> Result<(), Fail> {
     let ranks = Ranks::new(3).ok_or("no number of ranks")?;
     let programs = pairs(rt.alloc(), ranks)?;
-    let group = assemble::<Rolls, Lanes>(&rt, rt.alloc(), programs, 1)?;
+    let group = assemble::<Rolls, Lanes>(&(), rt.alloc(), programs, 1)?;
     let finished = run(&rt, group, 1, &OpenGate);
     for program in &finished.programs {
         assert_eq!(rt; program.first().taken(), 2);
@@ -73,7 +73,7 @@ fn a_pair_of_three_ranks_takes_what_the_two_others_send(rt: HostRuntime) -> Resu
 fn a_pair_on_one_rank_ends_without_lanes(rt: HostRuntime) -> Result<(), Fail> {
     let ranks = Ranks::new(1).ok_or("no number of ranks")?;
     let programs = pairs(rt.alloc(), ranks)?;
-    let mut group = assemble::<Rolls, Lanes>(&rt, rt.alloc(), programs, 1)?;
+    let mut group = assemble::<Rolls, Lanes>(&(), rt.alloc(), programs, 1)?;
     let machine = group.machines().first_mut().ok_or("no machine")?;
     assert_eq!(rt; machine.turn(), Turn::Moved);
     assert_eq!(rt; machine.turn(), Turn::Done);

@@ -1,0 +1,99 @@
+//! Messages through the kit's ring `rtrb`.
+use pg_base::OutOfMemory;
+use rtrb::{Consumer, Producer, RingBuffer};
+use std::alloc::Global;
+use std::sync::Wait;
+use std::thread;
+use std::thread::Threads;
+
+/// Sends the numbers below `messages` from one thread to another. Answers how many came in order.
+pub fn cross<R: Threads + Wait + Sync>(
+    rt: &R,
+    alloc: Global,
+    capacity: u32,
+    messages: u32,
+) -> Result<u32, OutOfMemory> {
+    let Ok((producer, consumer)) = RingBuffer::<u32>::new(alloc, capacity as usize) else {
+        return Err(OutOfMemory);
+    };
+    let ((), in_order) = thread::join(
+        rt,
+        move || send_all(rt, producer, messages),
+        move || count_in_order(rt, consumer, messages),
+    );
+    Ok(in_order)
+}
+
+/// Fills a queue and empties it in turn on this thread, until `messages` came. Answers how many came in order.
+pub fn turn<R: Wait>(
+    rt: &R,
+    alloc: Global,
+    capacity: u32,
+    messages: u32,
+) -> Result<u32, OutOfMemory> {
+    let Ok((producer, consumer)) = RingBuffer::<u32>::new(alloc, capacity as usize) else {
+        return Err(OutOfMemory);
+    };
+    Ok(fill_and_empty(rt, producer, consumer, capacity, messages))
+}
+
+fn send_all<R: Wait>(rt: &R, mut producer: Producer<u32>, messages: u32) {
+    let mut next = 0u32;
+    for _ in rt.forever() {
+        if next >= messages {
+            break;
+        }
+        match producer.push(next) {
+            Ok(()) => next += 1,
+            Err(_) => thread::yield_now(),
+        }
+    }
+}
+
+// How many of the messages that come are the number of messages that came before.
+fn count_in_order<R: Wait>(rt: &R, mut consumer: Consumer<u32>, messages: u32) -> u32 {
+    let mut next = 0u32;
+    let mut in_order = 0u32;
+    for _ in rt.forever() {
+        if next >= messages {
+            break;
+        }
+        match consumer.pop() {
+            Ok(number) => {
+                in_order = in_order.wrapping_add(u32::from(number == next));
+                next += 1;
+            }
+            Err(_) => thread::yield_now(),
+        }
+    }
+    in_order
+}
+
+fn fill_and_empty<R: Wait>(
+    rt: &R,
+    mut producer: Producer<u32>,
+    mut consumer: Consumer<u32>,
+    capacity: u32,
+    messages: u32,
+) -> u32 {
+    let mut next = 0u32;
+    let mut taken = 0u32;
+    let mut in_order = 0u32;
+    for _ in rt.forever() {
+        if taken >= messages {
+            break;
+        }
+        for _ in 0..capacity {
+            if producer.push(next).is_ok() {
+                next = next.wrapping_add(1);
+            }
+        }
+        for _ in 0..capacity {
+            if let Ok(number) = consumer.pop() {
+                in_order = in_order.wrapping_add(u32::from(number == taken));
+                taken = taken.wrapping_add(1);
+            }
+        }
+    }
+    in_order
+}
