@@ -21,6 +21,8 @@ ghost use Rattle.std.specs.Prelude.{◌≡◌};
 mod jobs;
 mod layouts;
 mod sites;
+#[cfg(test)]
+mod tests;
 mod totals;
 mod traffic;
 

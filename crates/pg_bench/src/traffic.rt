@@ -2,7 +2,7 @@ ghost use Rattle.std.specs.Prelude.{◌≡◌, ◌≤◌, ◌%◌, ◌^◌, IfOk
 ghost use Rattle.std.specs.List.{sum_by};
 ghost use Rattle.pg_group.specs.Entries.{Each};
 ghost use Rattle.pg_run.specs.Driven.{AreReady};
-ghost use Rattle.pg_run.specs.Room.{HasRoom};
+ghost use Rattle.pg_run.specs.Machines.{machines_of, HasRoom};
 ghost use Rattle.pg_bench.specs.Counts.{sent_down};
 
 use crate::jobs::Traffic;
@@ -17,8 +17,8 @@ const CAPACITY: u32 = 64;
 
 /// A group of rolls, one for each rank, that is ready to run.
 pub fn group_of_rolls(alloc: Global, job: Traffic) -> Result<Group<Roll, RingLanes>, OutOfMemory>
-    ensures ready { IfOk result (λ group. AreReady group.runners.items) }
-    ensures room { IfOk result (λ group. HasRoom (length group.runners.items) group.programs group.ports group.lanes) }
+    ensures ready { IfOk result (λ group. AreReady (machines_of group)) }
+    ensures room { IfOk result (λ group. HasRoom group) }
 {
     let programs = rolls(alloc, job.ranks, job.rounds.get())?;
     assemble::<Roll, RingLanes>(&(), alloc, programs, CAPACITY)

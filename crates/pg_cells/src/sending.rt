@@ -39,6 +39,7 @@ impl<R: Resolver> Cells<R> {
         ensures out_size { O.size out.new ≡ O.size out.old }
         ensures out_marks { O.marks_sent out.new ≡ O.marks_sent out.old }
         ensures out_rest { O.SameRest out.old out.new }
+        ensures out_later { O.Later out.old out.new }
     {
         match self.next_errand() {
             None => Worked::Idle,

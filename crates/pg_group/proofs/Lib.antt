@@ -9,3 +9,5 @@ pub mod Leaving
 pub mod Ending
 pub mod Shown
 pub mod RollLemmas
+pub mod Counting
+pub mod Later

@@ -2,7 +2,7 @@
 use Rattle.std.proofs.Common.{◌≡◌, ℕ, List, length, sym, ap, ◌∙◌, subst}
 use Rattle.std.specs.Prelude.{Option, Some}
 use Rattle.pg_lane.specs.declared.settling.Settled.{Settled}
-use Rattle.pg_lane.specs.Settled.{settled_sent, settled_taken}
+use Rattle.pg_lane.specs.Settled.{settled_sent, settled_taken, settled_capacity}
 use Rattle.pg_group.specs.declared.messages.Body.{Body}
 use Rattle.pg_group.specs.declared.messages.Envelope.{Envelope}
 use Rattle.pg_group.specs.Envelopes.{bodies, IsNumbered}
@@ -10,7 +10,7 @@ use Rattle.pg_group.specs.Settling.{IsSettledFrom}
 use Rattle.pg_group.proofs.Lanes.{IsNumbered-take}
 
 pub shows : {B : Type 0} (lane : Settled (Envelope B)) (out_sent in_taken : List (Envelope B)) (sent taken : List (Body B)) (room : ℕ) (capacity : Option ℕ)
-    → settled_sent lane ≡ out_sent → settled_taken lane ≡ in_taken → lane.capacity ≡ room → IsNumbered out_sent
+    → settled_sent lane ≡ out_sent → settled_taken lane ≡ in_taken → settled_capacity lane ≡ room → IsNumbered out_sent
     → sent ≡ bodies out_sent → taken ≡ bodies in_taken → capacity ≡ Some room → IsSettledFrom sent taken capacity lane
 shows lane out_sent in_taken sent taken room capacity same_sent same_taken same_room numbered is_sent is_taken is_room =
     let all_numbered : IsNumbered (settled_sent lane) = subst IsNumbered (sym same_sent) numbered in

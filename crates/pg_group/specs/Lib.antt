@@ -7,3 +7,5 @@ pub mod Grouped
 pub mod Settling
 pub mod Supersteps
 pub mod Rolls
+pub mod Book
+pub mod LaterLanes

@@ -31,6 +31,18 @@ SentToAll roll = (to : ℕ) → IsOther roll.rank.0 roll.ranks to → to < roll.
 abbrev pub SentOne : Roll → List (List (Body ℕ)) → List (List (Body ℕ)) → Type 0
 SentOne roll sent more_sent = (to : ℕ) × IsOther roll.rank.0 roll.ranks to × (more_sent ≡ append_at sent to (Item roll.rank.0))
 
+-- a number was counted: all else is the same
+pub record CountedOne (old new : Roll) : Type 0 where
+  pub rank : new.rank ≡ old.rank
+  pub ranks : new.ranks ≡ old.ranks
+  pub rounds : new.rounds ≡ old.rounds
+  pub round : new.round ≡ old.round
+  pub next : new.next ≡ old.next
+  pub taken : new.taken ≡ (old.taken + 1) % 2 ^ 64
+  pub idle : new.idle ≡ old.idle
+  pub cast : new.cast ≡ old.cast
+  pub ended : new.ended ≡ old.ended
+
 -- no item was done: all but whether it is idle is the same
 pub record DidNoItem (old new : Roll) : Type 0 where
   pub rank : new.rank ≡ old.rank

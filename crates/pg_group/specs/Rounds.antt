@@ -2,6 +2,7 @@
 use Rattle.std.specs.Prelude.{ℕ, zero, suc, Bool, true, false, List, [], ◌∷◌}
 use Rattle.pg_group.specs.declared.messages.Body.{Body}
 use Rattle.pg_group.specs.declared.messages.Body.TheVariants.{Item, Mark}
+use Rattle.pg_group.specs.declared.messages.Vote.{Vote}
 
 module _ {B : Type 0} where
   abbrev pub is_mark : Body B → Bool
@@ -13,6 +14,12 @@ module _ {B : Type 0} where
   marks [] = 0
   marks (Item x ∷ bs) = marks bs
   marks (Mark v ∷ bs) = suc (marks bs)
+
+  -- the votes of the list's marks, in order
+  abbrev pub votes_of : List (Body B) → List Vote
+  votes_of [] = []
+  votes_of (Item x ∷ bs) = votes_of bs
+  votes_of (Mark v ∷ bs) = v ∷ votes_of bs
 
   -- the last body is a mark
   abbrev pub ends_with_mark : List (Body B) → Bool

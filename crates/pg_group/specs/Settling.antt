@@ -1,7 +1,7 @@
 -- The settled lanes of a group, by what the ports at their two ends show.
 use Rattle.std.specs.Prelude.{◌≡◌, ℕ, List, Option, Some, slice_get}
 use Rattle.pg_lane.specs.declared.settling.Settled.{Settled}
-use Rattle.pg_lane.specs.Settled.{settled_sent, settled_taken}
+use Rattle.pg_lane.specs.Settled.{settled_sent, settled_taken, settled_capacity}
 use Rattle.pg_group.specs.declared.messages.Body.{Body}
 use Rattle.pg_group.specs.declared.messages.Envelope.{Envelope}
 use Rattle.pg_group.specs.Envelopes.{bodies, IsNumbered}
@@ -13,7 +13,7 @@ module _ {B : Type 0} where
     pub all_taken : bodies (settled_taken lane) ≡ taken
     pub sent_numbered : IsNumbered (settled_sent lane)
     pub taken_numbered : IsNumbered (settled_taken lane)
-    pub same_capacity : capacity ≡ Some lane.capacity
+    pub same_capacity : capacity ≡ Some (settled_capacity lane)
 
   -- the entry at this place is such a lane
   abbrev pub SettledAt : List (Settled (Envelope B)) → ℕ → List (Body B) → List (Body B) → Option ℕ → Type 0

@@ -31,6 +31,8 @@ pub trait Takes<B> {
 
     ghost saw_empty: { Self → Self → Type 0 };
 
+    ghost Later: { Self → Self → Type 0 };
+
     /// Takes the next body, unless this round's mark was taken before.
     fn take(&mut self) -> Polled<B>
         ensures item { OnItem result (λ x. (got self.new ≡ got self.old ++ Item x ∷ []) × (mark_got self.new ≡ mark_got self.old)) }
@@ -39,11 +41,13 @@ pub trait Takes<B> {
         ensures cause { OnEmpty result (saw_empty self.old self.new) }
         ensures closed { is_closed result ≡ mark_got self.old }
         ensures stays { OnClosed result ((got self.new ≡ got self.old) × (mark_got self.new ≡ mark_got self.old)) }
-        ensures same_lane { lane self.new ≡ lane self.old };
+        ensures same_lane { lane self.new ≡ lane self.old }
+        ensures later { Later self.old self.new };
 }
 
 impl<B: Copy + Send, I: InEnd<Envelope<B>>> Takes<B> for InLane<B, I> {
     ghost use Rattle.pg_group.specs.Envelopes.{bodies};
+    ghost use Rattle.pg_lane.specs.EndLater.{InLater};
 
     ghost got = { λ l. bodies (I.taken l.end) };
 
@@ -52,6 +56,8 @@ impl<B: Copy + Send, I: InEnd<Envelope<B>>> Takes<B> for InLane<B, I> {
     ghost lane = { λ l. I.lane l.end };
 
     ghost saw_empty = { λ old new. I.saw_empty old.end new.end };
+
+    ghost Later = { λ old new. InLater ⟦<I as InEnd<Envelope<B>>>⟧ old.end new.end };
 
     fn take(&mut self) -> Polled<B> {
         if self.closed {

@@ -38,7 +38,8 @@ pub trait Mailbox<B>: Outbox<B> {
         ensures cause { OnErr result (Self.saw_full self.old to.0 self.new) }
         ensures same_own { Self.own self.new ≡ Self.own self.old }
         ensures same_size { Self.size self.new ≡ Self.size self.old }
-        ensures rest { Self.SameRest self.old self.new };
+        ensures rest { Self.SameRest self.old self.new }
+        ensures later { Self.Later self.old self.new };
 
     /// Takes the next message from another rank. `Closed` comes exactly where this round's mark of that lane
     /// was taken before, and `Empty` only where the lane was empty at one moment of this call; nothing is
@@ -59,7 +60,8 @@ pub trait Mailbox<B>: Outbox<B> {
         ensures same_marks { Self.marks_sent self.new ≡ Self.marks_sent self.old }
         ensures same_own { Self.own self.new ≡ Self.own self.old }
         ensures same_size { Self.size self.new ≡ Self.size self.old }
-        ensures same_wiring { wiring self.new ≡ wiring self.old };
+        ensures same_wiring { wiring self.new ≡ wiring self.old }
+        ensures later { Self.Later self.old self.new };
 
     /// Whether this round's mark was sent to another rank.
     fn marked(&self, to: RankNo) -> bool
@@ -83,7 +85,8 @@ pub trait Mailbox<B>: Outbox<B> {
         ensures same_taken { taken self.new ≡ taken self.old }
         ensures same_own { Self.own self.new ≡ Self.own self.old }
         ensures same_size { Self.size self.new ≡ Self.size self.old }
-        ensures same_wiring { wiring self.new ≡ wiring self.old };
+        ensures same_wiring { wiring self.new ≡ wiring self.old }
+        ensures later { Self.Later self.old self.new };
 
     ghost rest_keeps: { (p q : Self) → Self.SameRest p q → (taken q ≡ taken p) × (marks_taken q ≡ marks_taken p) × (wiring q ≡ wiring p) };
 }

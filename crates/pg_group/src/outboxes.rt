@@ -27,6 +27,9 @@ pub trait Outbox<B> {
     /// All else that the outbox keeps is the same.
     ghost SameRest: { Self → Self → Type 0 };
 
+    /// What the outbox may have become by calls on it: no less was sent. A kind of lane may say more.
+    ghost Later: { Self → Self → Type 0 };
+
     /// Sends an item to another rank. `Full` comes only where the lane to that rank was full at one moment
     /// of this call; the item comes back and nothing was sent.
     fn send(&mut self, to: RankNo, item: B) -> Result<(), Full<B>>
@@ -39,7 +42,12 @@ pub trait Outbox<B> {
         ensures same_own { own self.new ≡ own self.old }
         ensures same_size { size self.new ≡ size self.old }
         ensures same_marks { marks_sent self.new ≡ marks_sent self.old }
-        ensures rest { SameRest self.old self.new };
+        ensures rest { SameRest self.old self.new }
+        ensures later { Later self.old self.new };
+
+    ghost later_same: { (o : Self) → Later o o };
+
+    ghost later_on: { (o p q : Self) → Later o p → Later p q → Later o q };
 
     ghost same_rest_refl: { (o : Self) → SameRest o o };
 

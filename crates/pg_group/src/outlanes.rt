@@ -36,6 +36,8 @@ pub trait Posts<B> {
 
     ghost saw_full: { Self → Self → Type 0 };
 
+    ghost Later: { Self → Self → Type 0 };
+
     /// Sends a body, unless the lane is full.
     fn post(&mut self, body: Body<B>) -> bool
         requires { mark_posted self.old ≡ false }
@@ -43,7 +45,8 @@ pub trait Posts<B> {
         ensures mark { mark_posted self.new ≡ (result && is_mark body) }
         ensures cause { OnFalse result (saw_full self.old self.new) }
         ensures same_lane { lane self.new ≡ lane self.old }
-        ensures same_capacity { capacity self.new ≡ capacity self.old };
+        ensures same_capacity { capacity self.new ≡ capacity self.old }
+        ensures later { Later self.old self.new };
 }
 
 impl<B: Copy + Send, O: OutEnd<Envelope<B>>> Posts<B> for OutLane<B, O> {
@@ -51,6 +54,7 @@ impl<B: Copy + Send, O: OutEnd<Envelope<B>>> Posts<B> for OutLane<B, O> {
     ghost use Rattle.std.specs.Bool.{OnFalse};
     ghost use Rattle.pg_group.specs.Envelopes.{bodies};
     ghost use Rattle.pg_group.specs.Rounds.{is_mark};
+    ghost use Rattle.pg_lane.specs.EndLater.{OutLater};
 
     ghost posted = { λ l. bodies (O.sent l.end) };
 
@@ -62,6 +66,8 @@ impl<B: Copy + Send, O: OutEnd<Envelope<B>>> Posts<B> for OutLane<B, O> {
 
     ghost saw_full = { λ old new. O.saw_full old.end new.end };
 
+    ghost Later = { λ old new. OutLater ⟦<O as OutEnd<Envelope<B>>>⟧ old.end new.end };
+
     fn post(&mut self, body: Body<B>) -> bool
         requires { self.old.marked ≡ false }
         ensures sends { MatchBool result (bodies (O.sent self.new.end) ≡ bodies (O.sent self.old.end) ++ body ∷ []) (bodies (O.sent self.new.end) ≡ bodies (O.sent self.old.end)) }
@@ -69,6 +75,7 @@ impl<B: Copy + Send, O: OutEnd<Envelope<B>>> Posts<B> for OutLane<B, O> {
         ensures cause { OnFalse result (O.saw_full self.old.end self.new.end) }
         ensures same_lane { O.lane self.new.end ≡ O.lane self.old.end }
         ensures same_capacity { O.capacity self.new.end ≡ O.capacity self.old.end }
+        ensures later { OutLater ⟦<O as OutEnd<Envelope<B>>>⟧ self.old.end self.new.end }
     {
         let envelope = Envelope {
             number: self.number,

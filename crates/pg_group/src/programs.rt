@@ -66,6 +66,9 @@ pub trait Program: Send {
     /// One item was done: the state and the sent lists before, and both after it.
     ghost DidItem: { Self → List (List (Body Self.Body)) → Self → List (List (Body Self.Body)) → Type 0 };
 
+    /// One message was handled: the state before, its sender, its item, and the state after.
+    ghost DidHandle: { Self → ℕ → Self.Body → Self → Type 0 };
+
     /// No item was done between two states.
     ghost DidNothing: { Self → Self → Type 0 };
 
@@ -94,6 +97,7 @@ pub trait Program: Send {
         requires { IsOther (own self.old) (size self.old) from.0 }
         ensures kept { (start : Self) (handled sent : List (List (Body Self.Body))) → Keeps start handled sent self.old
             → Keeps start (append_at handled from.0 (Item body)) sent self.new }
+        ensures did { DidHandle self.old from.0 body self.new }
         ensures same_own { own self.new ≡ own self.old }
         ensures same_size { size self.new ≡ size self.old }
         ensures same_round { round self.new ≡ round self.old }
@@ -129,7 +133,8 @@ pub trait Program: Send {
         ensures out_own { O.own out.new ≡ O.own out.old }
         ensures out_size { O.size out.new ≡ O.size out.old }
         ensures out_marks { O.marks_sent out.new ≡ O.marks_sent out.old }
-        ensures out_rest { O.SameRest out.old out.new };
+        ensures out_rest { O.SameRest out.old out.new }
+        ensures out_later { O.Later out.old out.new };
 
     /// Ends the work of this round. The vote counts as sent to every other rank from here on.
     fn vote(&mut self) -> Vote

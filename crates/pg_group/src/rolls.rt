@@ -86,7 +86,7 @@ impl Program for Roll {
     ghost use Rattle.pg_group.specs.declared.messages.Body.{Body};
     ghost use Rattle.pg_group.specs.declared.rolls.Roll.{Roll};
     ghost use Rattle.pg_group.specs.Supersteps.{append_marks, is_stop, OnAgain, OnStop};
-    ghost use Rattle.pg_group.specs.Rolls.{IsNewRoll, HasRolled, SentOne, DidNoItem, SentToAll, IsZeros};
+    ghost use Rattle.pg_group.specs.Rolls.{IsNewRoll, HasRolled, SentOne, CountedOne, DidNoItem, SentToAll, IsZeros};
 
     type Body = u32;
 
@@ -107,6 +107,8 @@ impl Program for Roll {
     ghost Keeps = { HasRolled };
 
     ghost DidItem = { λ roll sent after more_sent. SentOne roll sent more_sent };
+
+    ghost DidHandle = { λ roll from body after. CountedOne roll after };
 
     ghost DidNothing = { DidNoItem };
 

@@ -5,7 +5,7 @@ use crate::inlanes::{InLane, Takes};
 use crate::outlanes::{OutLane, Posts};
 use crate::{Body, Envelope, Mailbox, Outbox, Polled, Vote};
 use pg_base::RankNo;
-use pg_lane::{Full, LaneKind};
+use pg_lane::{Full, InEnd, LaneKind, OutEnd};
 
 /// The port of one rank: a lane to and a lane from each other rank of its group, ascending. It has no lane
 /// to itself.
@@ -26,6 +26,9 @@ impl<B: Copy + Send, K: LaneKind<Envelope<B>>> Outbox<B> for Port<B, K> {
     ghost use Rattle.std.proofs.Common.{◌∙◌};
     ghost use Rattle.pg_group.specs.Envelopes.{bodies};
     ghost use Rattle.pg_group.specs.Ranked.{place_of, by_rank, wired};
+    ghost use Rattle.pg_group.specs.LaterLanes.{AllLater, all-same, all-on};
+    ghost use Rattle.pg_lane.specs.EndLater.{OutLater, InLater};
+    ghost use Rattle.pg_lane.proofs.Order.{out_same, out_on, in_same, in_on};
 
     ghost own = { λ p. p.rank.0 };
 
@@ -44,6 +47,10 @@ impl<B: Copy + Send, K: LaneKind<Envelope<B>>> Outbox<B> for Port<B, K> {
         × (wired new.rank.0 new.ranks (map (λ l. K.Out.lane l.end) new.outs.items) (map (λ l. K.In.lane l.end) new.ins.items) (map (λ l. K.Out.capacity l.end) new.outs.items)
         ≡ wired old.rank.0 old.ranks (map (λ l. K.Out.lane l.end) old.outs.items) (map (λ l. K.In.lane l.end) old.ins.items) (map (λ l. K.Out.capacity l.end) old.outs.items)) };
 
+    // Each end of a lane is later in its own way.
+    ghost Later = { λ old new. AllLater (λ a b. OutLater ⟦<K::Out as OutEnd<Envelope<B>>>⟧ a.end b.end) old.outs.items new.outs.items
+        × AllLater (λ a b. InLater ⟦<K::In as InEnd<Envelope<B>>>⟧ a.end b.end) old.ins.items new.ins.items };
+
     fn send(&mut self, to: RankNo, item: B) -> Result<(), Full<B>> {
         let place = place(self.rank, to);
         if self.outs[place].post(Body::Item(item)) {
@@ -56,6 +63,13 @@ impl<B: Copy + Send, K: LaneKind<Envelope<B>>> Outbox<B> for Port<B, K> {
     ghost same_rest_refl = { λ o. (refl, refl) };
 
     ghost same_rest_trans = { λ o p q a b. (b.0 ∙ a.0, b.1 ∙ a.1) };
+
+    ghost later_same = { λ o. (all-same _ (λ a. out_same _ a.end) o.outs.items, all-same _ (λ a. in_same _ a.end) o.ins.items) };
+
+    ghost later_on = { λ o p q x y. (
+      all-on _ (λ a b c. out_on _ a.end b.end c.end) o.outs.items p.outs.items q.outs.items x.0 y.0,
+      all-on _ (λ a b c. in_on _ a.end b.end c.end) o.ins.items p.ins.items q.ins.items x.1 y.1,
+    ) };
 }
 
 impl<B: Copy + Send, K: LaneKind<Envelope<B>>> Mailbox<B> for Port<B, K> {

@@ -2,8 +2,10 @@ pub mod ByRank
 pub mod Marks
 pub mod Steps
 pub mod Promises
+pub mod Bounded
 pub mod Either
 pub mod Passes
 pub mod WholeBook
 pub mod Fresh
 pub mod Seating
+pub mod Ready

@@ -1,5 +1,5 @@
 -- What each step of a runner does to the promise that it keeps.
-use Rattle.std.proofs.Common.{◌≡◌, ℕ, suc, ◌+◌, ◌<◌, Bool, true, false, List, [], ◌∷◌, ◌++◌, length, map, set, refl, sym, ap, ◌∙◌, subst, arith, length-append, inl, inr, ⊎_elim, ◌⊎◌}
+use Rattle.std.proofs.Common.{◌≡◌, ℕ, suc, ◌+◌, ◌<◌, ◌≤◌, Bool, true, false, List, [], ◌∷◌, ◌++◌, length, map, set, refl, sym, ap, ◌∙◌, subst, arith, length-append, inl, inr, ⊎_elim, ◌⊎◌}
 use borrow.Author.Count.{below_more}
 use Rattle.pg_run.proofs.Either.{either_set, first_clear, second_clear}
 use Rattle.std.specs.Prelude.{◌||◌, Option, Some, None, is_some, if◌then◌else◌}
@@ -10,10 +10,9 @@ use Rattle.pg_group.specs.declared.programs.Program.{Ghosts as ProgramGhosts}
 use Rattle.pg_group.specs.declared.outboxes.Outbox.{Ghosts as OutboxGhosts}
 use Rattle.pg_group.specs.declared.mailboxes.Mailbox.{Ghosts as MailboxGhosts}
 use Rattle.pg_group.specs.Ranked.{IsOther, append_at, list_at, flag_at, all_clear, AllSet}
-use Rattle.pg_group.specs.Rounds.{ends_with_mark}
+use Rattle.pg_group.specs.Rounds.{ends_with_mark, votes_of}
 use Rattle.pg_group.specs.Supersteps.{append_others, append_marks, AreUnmarked}
-use Rattle.pg_run.specs.Ballots.{votes_of}
-use Rattle.pg_run.specs.Steps.{Rests, SameLists, NothingCame, NoRoom, SawFull, Event, Moved}
+use Rattle.pg_run.specs.Steps.{Rests, SameLists, SawEmpty, SawFull, NothingCame, NoRoom, HasVoted, DidNoItem, Event, Moved}
 use Rattle.pg_run.specs.Turns.{IsWaiting}
 use Rattle.pg_run.specs.Rounds.{IsTaken, IsSent}
 use Rattle.pg_run.specs.Kept.{IsRunning, IsOver, Follows}
@@ -194,6 +193,8 @@ module _ {P M B : Type 0} {p : ProgramGhosts P B} {m : MailboxGhosts M B} {o : O
     pub own : p.own new.program ≡ p.own old.program
     pub size : p.size new.program ≡ p.size old.program
     pub wiring : m.wiring new.outlet.port ≡ m.wiring old.outlet.port
+    pub later : o.Later old.outlet.port new.outlet.port
+    pub rounds : p.round old.program ≤ p.round new.program
 
   -- a step of a round of a runner
   pub goes_on : (old new : Runner P M B p m o) → Beside old new → old.done ≡ false → new.done ≡ false
@@ -205,6 +206,8 @@ module _ {P M B : Type 0} {p : ProgramGhosts P B} {m : MailboxGhosts M B} {o : O
     own = b.own;
     size = b.size;
     wiring = b.wiring;
+    later = b.later;
+    rounds = b.rounds;
     ends = λ e. absurd (cc);
     kept = λ k. record {
       running = λ d. subst (λ s. IsRunning p s new.program new.votes.items (o.sent new.outlet.port) (o.marks_sent new.outlet.port) (m.taken new.outlet.port) (m.marks_taken new.outlet.port)) (sym b.opening) (step (k.running old_runs));
@@ -222,24 +225,13 @@ module _ {P M B : Type 0} {p : ProgramGhosts P B} {m : MailboxGhosts M B} {o : O
     own = b.own;
     size = b.size;
     wiring = b.wiring;
+    later = b.later;
+    rounds = b.rounds;
     ends = λ e. over;
     kept = λ k. record {
       running = λ d. absurd (cc);
       over = λ d. subst (λ s. IsOver p s new.program (o.sent new.outlet.port) (m.taken new.outlet.port)) (sym b.opening) (step (k.running old_runs));
     };
-  }
-
-  pub follows_refl : (r : Runner P M B p m o) → Follows r r
-  follows_refl r = record { opening = refl; own = refl; size = refl; wiring = refl; ends = λ e. e; kept = λ k. k }
-
-  pub follows_trans : (a b c : Runner P M B p m o) → Follows a b → Follows b c → Follows a c
-  follows_trans a b c f g = record {
-    opening = g.opening ∙ f.opening;
-    own = g.own ∙ f.own;
-    size = g.size ∙ f.size;
-    wiring = g.wiring ∙ f.wiring;
-    ends = λ e. g.ends (f.ends e);
-    kept = λ k. g.kept (f.kept k);
   }
 
   pub rests_refl : (r : Runner P M B p m o) → Rests r r
@@ -254,47 +246,8 @@ module _ {P M B : Type 0} {p : ProgramGhosts P B} {m : MailboxGhosts M B} {o : O
     marks_taken = g.marks_taken ∙ f.marks_taken;
   }
 
-  -- what was seen after a rest was seen before it
-  pub came_before : (a b : Runner P M B p m o) (rank : ℕ) → Rests a b → NothingCame b rank → NothingCame a rank
-  came_before a b rank r (inl e) = inl (ap (λ f. flag_at f rank) (sym r.marks_taken) ∙ e)
-  came_before a b rank r (inr e) = inr (e.0, e.1, e.2 ∙ r.taken, e.3 ∙ r.taken, e.4)
-
-  pub room_before : (a b : Runner P M B p m o) (rank : ℕ) → Rests a b → NoRoom b rank → NoRoom a rank
-  room_before a b rank r (inl e) = inl (ap (λ f. flag_at f rank) (sym r.marks_sent) ∙ e)
-  room_before a b rank r (inr e) = inr (e.0, e.1, e.2 ∙ r.sent, e.3 ∙ r.sent, e.4)
-
-  pub moves_then : (a b c : Runner P M B p m o) → Moved a b → Follows b c → Moved a c
-  moves_then a b c w f = (w.0, w.1, w.2, w.3, follows_trans w.1 b c w.4 f)
-
-  pub then_moves : (a b c : Runner P M B p m o) → Follows a b → Moved b c → Moved a c
-  then_moves a b c f w = (w.0, w.1, follows_trans a b w.0 f w.2, w.3, w.4)
-
-  -- a step that is itself an event
-  pub moves : (a b : Runner P M B p m o) → Follows a b → Event a b → Moved a b
-  moves a b f e = (a, b, follows_refl a, e, follows_refl b)
-
-  -- one rank more, of a loop over the ranks that notes whether anything moved
-  pub any_moves : (a b c : Runner P M B p m o) (x y : Bool) → Follows a b → Follows b c → (x ≡ true → Moved a b) → (y ≡ true → Moved b c) → (x || y) ≡ true → Moved a c
-  any_moves a b c x y f g before now is = ⊎_elim (λ e. moves_then a b c (before e) g) (λ e. then_moves a b c f (now e)) (either_set x y is)
-
   pub all_rest : (a b c : Runner P M B p m o) (x y : Bool) → (x ≡ false → Rests a b) → (y ≡ false → Rests b c) → (x || y) ≡ false → Rests a c
   all_rest a b c x y before now is = rests_trans a b c (before (first_clear x y is)) (now (second_clear x y is))
-
-  pub none_came : (a b : Runner P M B p m o) (n : ℕ) (x y : Bool) → Follows a b → (x ≡ false → Rests a b)
-      → (x ≡ false → (k : ℕ) → k < n → IsOther (p.own a.program) (p.size a.program) k → NothingCame a k)
-      → (y ≡ false → IsOther (p.own b.program) (p.size b.program) n → NothingCame b n)
-      → (x || y) ≡ false → (k : ℕ) → k < n + 1 → IsOther (p.own a.program) (p.size a.program) k → NothingCame a k
-  none_came a b n x y f rests before now is =
-      below_more (λ k. IsOther (p.own a.program) (p.size a.program) k → NothingCame a k) n (before (first_clear x y is))
-      (λ other. came_before a b n (rests (first_clear x y is)) (now (second_clear x y is) (other_along _ _ _ _ n f.own f.size other)))
-
-  pub none_had_room : (a b : Runner P M B p m o) (n : ℕ) (x y : Bool) → Follows a b → (x ≡ false → Rests a b)
-      → (x ≡ false → (k : ℕ) → k < n → IsOther (p.own a.program) (p.size a.program) k → NoRoom a k)
-      → (y ≡ false → IsOther (p.own b.program) (p.size b.program) n → NoRoom b n)
-      → (x || y) ≡ false → (k : ℕ) → k < n + 1 → IsOther (p.own a.program) (p.size a.program) k → NoRoom a k
-  none_had_room a b n x y f rests before now is =
-      below_more (λ k. IsOther (p.own a.program) (p.size a.program) k → NoRoom a k) n (before (first_clear x y is))
-      (λ other. room_before a b n (rests (first_clear x y is)) (now (second_clear x y is) (other_along _ _ _ _ n f.own f.size other)))
 
   pub rests_same : (a b : Runner P M B p m o) → b ≡ a → Rests a b
   rests_same a b e = subst (Rests a) (sym e) (rests_refl a)
@@ -310,21 +263,170 @@ module _ {P M B : Type 0} {p : ProgramGhosts P B} {m : MailboxGhosts M B} {o : O
     marks_taken = t.marks_taken ∙ s.marks_taken ∙ r.marks_taken;
   }
 
-  room_then : (a b c : Runner P M B p m o) (rank : ℕ) → Rests a b → SameLists b c → NoRoom c rank → NoRoom a rank
-  room_then a b c rank r s (inl e) = inl (ap (λ f. flag_at f rank) (sym (s.marks_sent ∙ r.marks_sent)) ∙ e)
-  room_then a b c rank r s (inr e) = inr (e.0, e.1, e.2 ∙ s.sent ∙ r.sent, e.3 ∙ s.sent ∙ r.sent, e.4)
+  none_done : (a b c d : Runner P M B p m o) → Rests a b → DidNoItem b c → Rests c d → DidNoItem a d
+  none_done a b c d r (inl e) t = inl (t.program ∙ e ∙ r.program)
+  none_done a b c d r (inr (inl e)) t = inr (inl (subst (λ x. p.DidNothing x d.program) r.program (subst (p.DidNothing b.program) (sym t.program) e)))
+  none_done a b c d r (inr (inr e)) t = inr (inr (e.0, subst (λ x. p.DidNothing x e.0) r.program e.1, subst (HasVoted p e.0) (sym t.program) e.2))
+
+  empty_until : (a b c : Runner P M B p m o) (rank : ℕ) → c.outlet.port ≡ b.outlet.port → NothingCame a b rank → NothingCame a c rank
+  empty_until a b c rank same (inl e) = inl e
+  empty_until a b c rank same (inr e) = inr (record {
+    before = e.before;
+    after = e.after;
+    begun = e.begun;
+    seen = e.seen;
+    ended = subst (o.Later e.after) (sym same) e.ended;
+    taken_before = e.taken_before;
+    taken_after = e.taken_after;
+  })
+
+  full_until : (a b c : Runner P M B p m o) (rank : ℕ) → c.outlet.port ≡ b.outlet.port → SawFull a b rank → SawFull a c rank
+  full_until a b c rank same e = record {
+    before = e.before;
+    after = e.after;
+    begun = e.begun;
+    seen = e.seen;
+    ended = subst (o.Later e.after) (sym same) e.ended;
+    sent_before = e.sent_before;
+    sent_after = e.sent_after;
+  }
+
+  room_until : (a b c : Runner P M B p m o) (rank : ℕ) → c.outlet.port ≡ b.outlet.port → NoRoom a b rank → NoRoom a c rank
+  room_until a b c rank same (inl e) = inl e
+  room_until a b c rank same (inr e) = inr (full_until a b c rank same e)
+
+  abbrev Held : Runner P M B p m o → Runner P M B p m o → Type 0
+  Held old new = ((new.voted ≡ true) × ((rank : ℕ) → IsOther (p.own old.program) (p.size old.program) rank → NoRoom old new rank))
+      ⊎ ((to : ℕ) × IsOther (p.own old.program) (p.size old.program) to × SawFull old new to)
+
+  held_until : (a b c : Runner P M B p m o) → c.outlet.port ≡ b.outlet.port → c.voted ≡ b.voted → Held a b → Held a c
+  held_until a b c same vote (inl h) = inl (vote ∙ h.0, λ rank other. room_until a b c rank same (h.1 rank other))
+  held_until a b c same vote (inr h) = inr (h.0, h.1, full_until a b c h.0 same h.2)
+
+  -- the number of the turn is no part of what was waited for
+  pub waits_until : (a b c : Runner P M B p m o) → c.program ≡ b.program → c.outlet.port ≡ b.outlet.port → c.voted ≡ b.voted → IsWaiting a b → IsWaiting a c
+  waits_until a b c program same vote w = record {
+    same = record {
+      own = ap p.own program ∙ w.same.own;
+      size = ap p.size program ∙ w.same.size;
+      round = ap p.round program ∙ w.same.round;
+      sent = ap o.sent same ∙ w.same.sent;
+      marks_sent = ap o.marks_sent same ∙ w.same.marks_sent;
+      taken = ap m.taken same ∙ w.same.taken;
+      marks_taken = ap m.marks_taken same ∙ w.same.marks_taken;
+    };
+    no_item = none_done a a b c (rests_refl a) w.no_item (record { program = program; sent = ap o.sent same; marks_sent = ap o.marks_sent same; taken = ap m.taken same; marks_taken = ap m.marks_taken same });
+    nothing = λ rank other. empty_until a b c rank same (w.nothing rank other);
+    held = held_until a b c same vote w.held;
+  }
+
+  pub moves_refl : (r : Runner P M B p m o) → o.Later r.outlet.port r.outlet.port → Follows r r
+  moves_refl r same = record { opening = refl; own = refl; size = refl; wiring = refl; later = same; rounds = omega arith; ends = λ e. e; kept = λ k. k }
+
+-- The same where what a port may have become is a preorder.
+module _ {P M B : Type 0} {p : ProgramGhosts P B} {m : MailboxGhosts M B} {o : OutboxGhosts M B} (same_port : (x : M) → o.Later x x) (on : (x y z : M) → o.Later x y → o.Later y z → o.Later x z) where
+  pub follows_refl : (r : Runner P M B p m o) → Follows r r
+  follows_refl r = moves_refl r (same_port r.outlet.port)
+
+  pub follows_trans : (a b c : Runner P M B p m o) → Follows a b → Follows b c → Follows a c
+  follows_trans a b c f g = record {
+    opening = g.opening ∙ f.opening;
+    own = g.own ∙ f.own;
+    size = g.size ∙ f.size;
+    wiring = g.wiring ∙ f.wiring;
+    later = on a.outlet.port b.outlet.port c.outlet.port f.later g.later;
+    rounds = omega (arith, f.rounds, g.rounds);
+    ends = λ e. g.ends (f.ends e);
+    kept = λ k. g.kept (f.kept k);
+  }
+
+  -- what was seen in a part of a time in which nothing was taken was seen in all of it
+  empty_within : (a b c d : Runner P M B p m o) (rank : ℕ) → o.Later a.outlet.port b.outlet.port → m.taken b.outlet.port ≡ m.taken a.outlet.port → o.Later c.outlet.port d.outlet.port → SawEmpty b c rank → SawEmpty a d rank
+  empty_within a b c d rank first same last e = record {
+    before = e.before;
+    after = e.after;
+    begun = on a.outlet.port b.outlet.port e.before first e.begun;
+    seen = e.seen;
+    ended = on e.after c.outlet.port d.outlet.port e.ended last;
+    taken_before = e.taken_before ∙ same;
+    taken_after = e.taken_after ∙ same;
+  }
+
+  full_within : (a b c d : Runner P M B p m o) (rank : ℕ) → o.Later a.outlet.port b.outlet.port → o.sent b.outlet.port ≡ o.sent a.outlet.port → o.Later c.outlet.port d.outlet.port → SawFull b c rank → SawFull a d rank
+  full_within a b c d rank first same last e = record {
+    before = e.before;
+    after = e.after;
+    begun = on a.outlet.port b.outlet.port e.before first e.begun;
+    seen = e.seen;
+    ended = on e.after c.outlet.port d.outlet.port e.ended last;
+    sent_before = e.sent_before ∙ same;
+    sent_after = e.sent_after ∙ same;
+  }
+
+  came_within : (a b c d : Runner P M B p m o) (rank : ℕ) → Rests a b → o.Later a.outlet.port b.outlet.port → o.Later c.outlet.port d.outlet.port → NothingCame b c rank → NothingCame a d rank
+  came_within a b c d rank r first last (inl e) = inl (ap (λ f. flag_at f rank) (sym r.marks_taken) ∙ e)
+  came_within a b c d rank r first last (inr e) = inr (empty_within a b c d rank first r.taken last e)
+
+  room_within : (a b c d : Runner P M B p m o) (rank : ℕ) → o.sent b.outlet.port ≡ o.sent a.outlet.port → o.marks_sent b.outlet.port ≡ o.marks_sent a.outlet.port
+      → o.Later a.outlet.port b.outlet.port → o.Later c.outlet.port d.outlet.port → NoRoom b c rank → NoRoom a d rank
+  room_within a b c d rank same marks first last (inl e) = inl (ap (λ f. flag_at f rank) (sym marks) ∙ e)
+  room_within a b c d rank same marks first last (inr e) = inr (full_within a b c d rank first same last e)
+
+  pub moves_then : (a b c : Runner P M B p m o) → Moved a b → Follows b c → Moved a c
+  moves_then a b c w f = (w.0, w.1, w.2, w.3, follows_trans w.1 b c w.4 f)
+
+  pub then_moves : (a b c : Runner P M B p m o) → Follows a b → Moved b c → Moved a c
+  then_moves a b c f w = (w.0, w.1, follows_trans a b w.0 f w.2, w.3, w.4)
+
+  -- a step that is itself an event
+  pub moves : (a b : Runner P M B p m o) → Follows a b → Event a b → Moved a b
+  moves a b f e = (a, b, follows_refl a, e, follows_refl b)
+
+  -- one rank more, of a loop over the ranks that notes whether anything moved
+  pub any_moves : (a b c : Runner P M B p m o) (x y : Bool) → Follows a b → Follows b c → (x ≡ true → Moved a b) → (y ≡ true → Moved b c) → (x || y) ≡ true → Moved a c
+  any_moves a b c x y f g before now is = ⊎_elim (λ e. moves_then a b c (before e) g) (λ e. then_moves a b c f (now e)) (either_set x y is)
+
+  pub none_came : (a b c : Runner P M B p m o) (n : ℕ) (x y : Bool) → Follows a b → Follows b c → (x ≡ false → Rests a b)
+      → (x ≡ false → (k : ℕ) → k < n → IsOther (p.own a.program) (p.size a.program) k → NothingCame a b k)
+      → (y ≡ false → IsOther (p.own b.program) (p.size b.program) n → NothingCame b c n)
+      → (x || y) ≡ false → (k : ℕ) → k < n + 1 → IsOther (p.own a.program) (p.size a.program) k → NothingCame a c k
+  none_came a b c n x y f g rests before now is =
+      let first = first_clear x y is in
+      below_more (λ k. IsOther (p.own a.program) (p.size a.program) k → NothingCame a c k) n
+      (λ k h other. came_within a a b c k (rests_refl a) (same_port a.outlet.port) g.later (before first k h other))
+      (λ other. came_within a b c c n (rests first) f.later (same_port c.outlet.port) (now (second_clear x y is) (other_along _ _ _ _ n f.own f.size other)))
+
+  pub none_had_room : (a b c : Runner P M B p m o) (n : ℕ) (x y : Bool) → Follows a b → Follows b c → (x ≡ false → Rests a b)
+      → (x ≡ false → (k : ℕ) → k < n → IsOther (p.own a.program) (p.size a.program) k → NoRoom a b k)
+      → (y ≡ false → IsOther (p.own b.program) (p.size b.program) n → NoRoom b c n)
+      → (x || y) ≡ false → (k : ℕ) → k < n + 1 → IsOther (p.own a.program) (p.size a.program) k → NoRoom a c k
+  none_had_room a b c n x y f g rests before now is =
+      let first = first_clear x y is in
+      below_more (λ k. IsOther (p.own a.program) (p.size a.program) k → NoRoom a c k) n
+      (λ k h other. room_within a a b c k refl refl (same_port a.outlet.port) g.later (before first k h other))
+      (λ other. room_within a b c c n (rests first).sent (rests first).marks_sent f.later (same_port c.outlet.port) (now (second_clear x y is) (other_along _ _ _ _ n f.own f.size other)))
+
+  -- no mark found room before the round was looked at for its end
+  pub room_then : (a b c : Runner P M B p m o) (rank : ℕ) → Follows b c → NoRoom a b rank → NoRoom a c rank
+  room_then a b c rank g e = room_within a a b c rank refl refl (same_port a.outlet.port) g.later e
 
   -- nothing came, no item was done, and no mark was sent
-  pub waits : (a b c d : Runner P M B p m o) → Rests a b → ((rank : ℕ) → IsOther (p.own a.program) (p.size a.program) rank → NothingCame a rank)
-      → SameLists b c → (c.voted ≡ true) ⊎ ((to : ℕ) × IsOther (p.own b.program) (p.size b.program) to × SawFull b to)
-      → Rests c d → d.voted ≡ c.voted → (c.voted ≡ true → (rank : ℕ) → IsOther (p.own c.program) (p.size c.program) rank → NoRoom c rank) → IsWaiting a d
-  waits a b c d r nothing s (inl cast) t same room = record {
+  pub waits : (a b c d : Runner P M B p m o) → Follows a b → Follows b c → Follows c d → Rests a b → ((rank : ℕ) → IsOther (p.own a.program) (p.size a.program) rank → NothingCame a b rank)
+      → SameLists b c → DidNoItem b c → (c.voted ≡ true) ⊎ ((to : ℕ) × IsOther (p.own b.program) (p.size b.program) to × SawFull b c to)
+      → Rests c d → d.voted ≡ c.voted → (c.voted ≡ true → (rank : ℕ) → IsOther (p.own c.program) (p.size c.program) rank → NoRoom c d rank) → IsWaiting a d
+  waits a b c d ab bc cd r nothing s none (inl cast) t same room = record {
     same = lists_then a b c d r s t;
-    nothing = nothing;
-    held = inl (same ∙ cast, λ rank other. room_then a b c rank r s (room cast rank (other_along _ _ _ _ rank (s.own ∙ ap p.own r.program) (s.size ∙ ap p.size r.program) other)));
+    no_item = none_done a b c d r none t;
+    nothing = λ rank other. came_within a a b d rank (rests_refl a) (same_port a.outlet.port) (follows_trans b c d bc cd).later (nothing rank other);
+    held = inl (
+      same ∙ cast,
+      λ rank other. room_within a c d d rank (s.sent ∙ r.sent) (s.marks_sent ∙ r.marks_sent) (follows_trans a b c ab bc).later (same_port d.outlet.port)
+          (room cast rank (other_along _ _ _ _ rank (s.own ∙ ap p.own r.program) (s.size ∙ ap p.size r.program) other)),
+    );
   }
-  waits a b c d r nothing s (inr full) t same room = record {
+  waits a b c d ab bc cd r nothing s none (inr full) t same room = record {
     same = lists_then a b c d r s t;
-    nothing = nothing;
-    held = inr (full.0, other_along _ _ _ _ full.0 (ap p.own (sym r.program)) (ap p.size (sym r.program)) full.1, (full.2.0, full.2.1, full.2.2 ∙ r.sent, full.2.3 ∙ r.sent, full.2.4));
+    no_item = none_done a b c d r none t;
+    nothing = λ rank other. came_within a a b d rank (rests_refl a) (same_port a.outlet.port) (follows_trans b c d bc cd).later (nothing rank other);
+    held = inr (full.0, other_along _ _ _ _ full.0 (ap p.own (sym r.program)) (ap p.size (sym r.program)) full.1, full_within a b c d full.0 ab.later r.sent cd.later full.2);
   }

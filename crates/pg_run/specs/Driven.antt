@@ -1,20 +1,43 @@
--- Lists of runners, and what driving them keeps.
-use Rattle.std.specs.Prelude.{◌≡◌, List, length, map, slice_get, Some}
+-- Lists of machines, and what driving them does.
+use Rattle.std.specs.Prelude.{◌≡◌, ◌+◌, ◌%◌, ◌^◌, ℕ, zero, suc, List, length, map, slice_get, Some, true, false}
 use Rattle.pg_group.specs.declared.programs.Program.{Ghosts as ProgramGhosts}
 use Rattle.pg_group.specs.declared.outboxes.Outbox.{Ghosts as OutboxGhosts}
 use Rattle.pg_group.specs.declared.mailboxes.Mailbox.{Ghosts as MailboxGhosts}
 use Rattle.pg_group.specs.Entries.{Each}
 use Rattle.pg_group.specs.Grouped.{AreOneGroup}
+use Rattle.pg_run.specs.Bounds.{AtMost}
 use Rattle.pg_run.specs.Kept.{Kept, Follows}
+use Rattle.pg_run.specs.Machines.{port_of, turns_of, has_ended}
+use Rattle.pg_run.specs.Turns.{Answers}
 use Rattle.pg_run.specs.declared.runners.Runner.{Runner}
+use Rattle.pg_run.specs.declared.turns.Turn.{Turn}
 
 module _ {P M B : Type 0} {p : ProgramGhosts P B} {m : MailboxGhosts M B} {o : OutboxGhosts M B} where
-  -- each runner has become the one that stands in its place
+  -- each machine has become the one that stands in its place
   pub record HaveFollowed (old new : List (Runner P M B p m o)) : Type 0 where
     pub long : length new ≡ length old
     pub each : Each (λ place r. (was : Runner P M B p m o) × (slice_get old place ≡ Some was) × Follows was r) new
 
-  -- The runners of one whole group, in order of rank, which all keep their programs' promises.
+  -- The machine had one turn, which answered something. One that had ended stays; any other counts a turn more.
+  pub record HadTurn (old new : Runner P M B p m o) : Type 0 where
+    pub follows : Follows old new
+    pub bounds : AtMost 64 256 old new
+    pub answer : Turn
+    pub answers : Answers answer old new
+    pub stays : has_ended old ≡ true → new ≡ old
+    pub counted : has_ended old ≡ false → turns_of new ≡ (turns_of old + 1) % 2 ^ 64
+
+  -- one pass: each machine had one turn in its place
+  pub record HadPass (old new : List (Runner P M B p m o)) : Type 0 where
+    pub long : length new ≡ length old
+    pub each : Each (λ place r. (was : Runner P M B p m o) × (slice_get old place ≡ Some was) × HadTurn was r) new
+
+  -- so many passes, one after another
+  abbrev pub HadPasses : ℕ → List (Runner P M B p m o) → List (Runner P M B p m o) → Type 0
+  HadPasses zero old new = new ≡ old
+  HadPasses (suc passes) old new = (mid : List (Runner P M B p m o)) × HadPasses passes old mid × HadPass mid new
+
+  -- The machines of one whole group, in order of rank, which all keep their programs' promises.
   pub record AreReady (runners : List (Runner P M B p m o)) : Type 0 where
-    pub group : AreOneGroup (map (λ r. m.wiring r.outlet.port) runners)
+    pub group : AreOneGroup (map (λ r. m.wiring (port_of r)) runners)
     pub kept : Each (λ rank r. Kept r) runners

@@ -1,10 +1,11 @@
-pub mod Ballots
 pub mod Rounds
 pub mod Kept
 pub mod Steps
 pub mod Turns
 pub mod Driven
-pub mod Book
+pub mod Lanes
 pub mod Room
+pub mod Machines
+pub mod Bounds
 pub mod Pairs
 pub mod Lending

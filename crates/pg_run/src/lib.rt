@@ -1,9 +1,13 @@
 //! Runs rank programs: each in a machine of its own, turn by turn, until all have ended.
 #![tactic(auto)]
 
+#[cfg(test)]
+mod counting_tests;
 mod driving;
 mod ending;
 mod finished;
+#[cfg(test)]
+mod gate_tests;
 mod groups;
 mod marking;
 mod outlets;

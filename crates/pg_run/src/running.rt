@@ -2,9 +2,11 @@ ghost use Rattle.std.specs.Prelude.{◌≡◌, ◌≤◌, ◌+◌, ◌-◌, ◌*
 ghost use Rattle.std.specs.Vec.{vec_capacity};
 ghost use Rattle.pg_group.specs.Entries.{Each};
 ghost use Rattle.pg_group.specs.Ranked.{place_of};
-ghost use Rattle.pg_run.specs.Book.{IsLane, IsWhole, KeepsOver};
+ghost use Rattle.pg_group.specs.Book.{IsWhole, IsMarked, KeepsOver};
+ghost use Rattle.pg_run.specs.Lanes.{IsLane, AreWhole, sent_on, taken_on};
 ghost use Rattle.pg_run.specs.Driven.{AreReady, HaveFollowed};
-ghost use Rattle.pg_run.specs.Room.{HasRoom};
+ghost use Rattle.pg_run.specs.Machines.{machines_of, opening_of, port_of, has_ended, HasRoom};
+ghost use Rattle.pg_lane.specs.Settled.{settled_capacity};
 
 use crate::groups::{Assembly, Group};
 use crate::runners::Runner;
@@ -26,14 +28,17 @@ pub fn run<W: Wait, P: Program + Drop, K: LaneKind<Envelope<P::Body>>, G: Gate>(
     gate: &G,
 ) -> Finished<P>
     requires threads { 1 ≤ threads }
-    requires ready { AreReady group.runners.items }
-    requires room { HasRoom (length group.runners.items) group.programs group.ports group.lanes }
-    ensures programs { length result.programs.items ≡ length group.runners.items }
+    requires ready { AreReady (machines_of group) }
+    requires room { HasRoom group }
+    ensures programs { length result.programs.items ≡ length (machines_of group) }
     ensures ended { Each (λ rank p. P.ended p ≡ true) result.programs.items }
-    ensures book { IsWhole (length group.runners.items) result.lanes.items }
-    ensures keeps { Each (λ rank p. Each (λ place r. rank ≡ place → KeepsOver ⟦<P as Program>⟧ (length group.runners.items) rank result.lanes.items r.opening.value p) group.runners.items) result.programs.items }
-    ensures capacities { Each (λ sender r. (receiver : ℕ) (lane : _) → IsLane (length group.runners.items) result.lanes.items sender receiver lane
-        → slice_get (⟦<Port<P::Body, K> as Mailbox<P::Body>>⟧.wiring r.outlet.port).capacities (place_of sender receiver) ≡ Some lane.capacity) group.runners.items }
+    ensures lanes { AreWhole (length (machines_of group)) result.lanes.items }
+    ensures book { IsWhole (length (machines_of group)) (sent_on (length (machines_of group)) result.lanes.items) (taken_on (length (machines_of group)) result.lanes.items) }
+    ensures marks { IsMarked (length (machines_of group)) (sent_on (length (machines_of group)) result.lanes.items) }
+    ensures keeps { Each (λ rank p. Each (λ place r. rank ≡ place → KeepsOver ⟦<P as Program>⟧ (length (machines_of group)) rank
+        (sent_on (length (machines_of group)) result.lanes.items) (taken_on (length (machines_of group)) result.lanes.items) (opening_of r) p) (machines_of group)) result.programs.items }
+    ensures capacities { Each (λ sender r. (receiver : ℕ) (lane : _) → IsLane (length (machines_of group)) result.lanes.items sender receiver lane
+        → slice_get (⟦<Port<P::Body, K> as Mailbox<P::Body>>⟧.wiring (port_of r)).capacities (place_of sender receiver) ≡ Some (settled_capacity lane)) (machines_of group) }
 {
     let _ = threads;
     let Assembly {
@@ -48,19 +53,19 @@ pub fn run<W: Wait, P: Program + Drop, K: LaneKind<Envelope<P::Body>>, G: Gate>(
     Finished { programs, lanes }
 }
 
-// Drives the runners until all have ended.
+// Drives the machines until all have ended.
 fn drive_all<W: Wait, P: Program, M: Mailbox<P::Body>, G: Gate>(
     token: &W,
     runners: &mut Vec<Runner<P, M>>,
     gate: &G,
 )
     ensures follow { HaveFollowed runners.old.items runners.new.items }
-    ensures done { Each (λ place r. r.done ≡ true) runners.new.items }
+    ensures done { Each (λ place r. has_ended r ≡ true) runners.new.items }
 {
     drive(token, runners, gate);
 }
 
-// Appends the programs and the mailboxes of the runners, in their order, to two empty lists.
+// Appends the programs and the mailboxes of the machines, in their order, to two empty lists.
 fn take_apart<P: Program + Drop, M: Mailbox<P::Body> + Drop>(
     mut runners: Vec<Runner<P, M>>,
     programs: &mut Vec<P>,

@@ -5,6 +5,7 @@ use Rattle.pg_group.specs.declared.messages.Body.TheVariants.{Item, Mark}
 use Rattle.pg_group.specs.declared.messages.Vote.{Vote}
 use Rattle.pg_group.specs.Ranked.{append_at}
 use Rattle.pg_group.specs.Rounds.{marks}
+use Rattle.pg_group.specs.Book.{PairLists}
 use Rattle.pg_triggers.specs.declared.items.Of2.{Of2}
 use Rattle.pg_triggers.specs.declared.items.Of2.TheVariants.{First, Second}
 
@@ -49,6 +50,13 @@ module _ {A B : Type 0} where
 
   abbrev pub second_lists : ℕ → List (List (Body (Of2 A B))) → List (List (Body B))
   second_lists last lists = mine_each second_item second_vote (last + 1) lists
+
+  -- the same of the lists of all ranks
+  abbrev pub first_book : ℕ → PairLists (Of2 A B) → PairLists A
+  first_book last lists sender receiver = mine first_item first_vote (lists sender receiver) (last + 1)
+
+  abbrev pub second_book : ℕ → PairLists (Of2 A B) → PairLists B
+  second_book last lists sender receiver = mine second_item second_vote (lists sender receiver) (last + 1)
 
 module _ {C X : Type 0} (item : C → Option X) (vote : Vote → Vote) where
   -- all of the member's items and marks, in each list by rank

@@ -6,6 +6,7 @@ use Rattle.pg_group.specs.Ranked.{IsOther, list_at}
 use Rattle.pg_group.specs.Rounds.{marks, ends_with_mark}
 use Rattle.pg_triggers.specs.Mine.{first_item, second_item, first_vote, second_vote, first_lists, second_lists, whole}
 use Rattle.pg_triggers.specs.declared.items.Of2.{Of2}
+use Rattle.pg_triggers.specs.declared.items.Of2.TheVariants.{First, Second}
 
 -- so many marks in the list of each other rank, and none in the own one
 pub record AreMarked {C : Type 0} (own size n : ℕ) (lists : List (List (Body C))) : Type 0 where
@@ -51,6 +52,11 @@ pub record MemberDid {C X Y : Type 0} (item : C → Option X) (read : Vote → V
   pub other : whole other_item other_read more ≡ whole other_item other_read sent
 
 module _ {A B : Type 0} where
+  -- a fact of an item of the first member, and one of an item of the second
+  abbrev pub OnMember : Of2 A B → (A → Type 0) → (B → Type 0) → Type 0
+  OnMember (First x) P Q = P x
+  OnMember (Second y) P Q = Q y
+
   abbrev pub FirstDid : (List (List (Body A)) → List (List (Body A)) → Type 0) → Bool → List (List (Body (Of2 A B))) → List (List (Body (Of2 A B))) → Type 0
   FirstDid = MemberDid first_item first_vote second_item second_vote
 

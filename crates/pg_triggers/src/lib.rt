@@ -6,8 +6,6 @@ pub mod laws;
 mod members;
 mod outs;
 mod pairs;
-#[cfg(test)]
-mod tests;
 mod votes;
 
 pub use items::Of2;

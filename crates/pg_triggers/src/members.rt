@@ -50,7 +50,8 @@ pub trait Member: Narrow {
         ensures out_own { O.own out.new ≡ O.own out.old }
         ensures out_size { O.size out.new ≡ O.size out.old }
         ensures out_marks { O.marks_sent out.new ≡ O.marks_sent out.old }
-        ensures out_rest { O.SameRest out.old out.new };
+        ensures out_rest { O.SameRest out.old out.new }
+        ensures out_later { O.Later out.old out.new };
 
     /// Votes; the vote of a member that has ended has the greatest `a`.
     fn vote_on(&mut self, ended: bool) -> Vote

@@ -28,6 +28,8 @@ impl<'a, A: Copy + Send, B: Copy + Send, O: Outbox<Of2<A, B>>> Outbox<A> for Fir
 
     ghost saw_full = { λ old to new. O.saw_full old.out.now to new.out.now };
 
+    ghost Later = { λ old new. O.Later old.out.now new.out.now };
+
     // The outbox is the same one, and only items of this member were sent.
     ghost SameRest = { λ old new. (new.out.ghost_name ≡ old.out.ghost_name) × O.SameRest old.out.now new.out.now
         × ((posts : List (ℕ × _)) × (O.sent new.out.now ≡ post_all First posts (O.sent old.out.now))) };
@@ -38,6 +40,10 @@ impl<'a, A: Copy + Send, B: Copy + Send, O: Outbox<Of2<A, B>>> Outbox<A> for Fir
             Err(_) => Err(Full(item)),
         }
     }
+
+    ghost later_same = { λ w. O.later_same w.out.now };
+
+    ghost later_on = { λ u v w before after. O.later_on u.out.now v.out.now w.out.now before after };
 
     ghost same_rest_refl = { λ w. (refl, O.same_rest_refl w.out.now, ([], refl)) };
 
@@ -72,6 +78,8 @@ impl<'a, A: Copy + Send, B: Copy + Send, O: Outbox<Of2<A, B>>> Outbox<B> for Sec
 
     ghost saw_full = { λ old to new. O.saw_full old.out.now to new.out.now };
 
+    ghost Later = { λ old new. O.Later old.out.now new.out.now };
+
     // The outbox is the same one, and only items of this member were sent.
     ghost SameRest = { λ old new. (new.out.ghost_name ≡ old.out.ghost_name) × O.SameRest old.out.now new.out.now
         × ((posts : List (ℕ × _)) × (O.sent new.out.now ≡ post_all Second posts (O.sent old.out.now))) };
@@ -82,6 +90,10 @@ impl<'a, A: Copy + Send, B: Copy + Send, O: Outbox<Of2<A, B>>> Outbox<B> for Sec
             Err(_) => Err(Full(item)),
         }
     }
+
+    ghost later_same = { λ w. O.later_same w.out.now };
+
+    ghost later_on = { λ u v w before after. O.later_on u.out.now v.out.now w.out.now before after };
 
     ghost same_rest_refl = { λ w. (refl, O.same_rest_refl w.out.now, ([], refl)) };
 

@@ -84,7 +84,7 @@ impl<A: Narrow, B: Narrow> Program for Pair<A, B> {
     ghost use Rattle.pg_group.specs.declared.messages.Body.TheVariants.{Mark};
     ghost use Rattle.pg_group.specs.Supersteps.{append_others};
     ghost use Rattle.pg_triggers.specs.Mine.{first_vote, second_vote};
-    ghost use Rattle.pg_triggers.specs.Paired.{BothKeep, FirstDid, SecondDid};
+    ghost use Rattle.pg_triggers.specs.Paired.{BothKeep, FirstDid, SecondDid, OnMember};
     ghost use Rattle.pg_group.specs.declared.messages.Vote.{Vote};
 
     type Body = Of2<A::Body, B::Body>;
@@ -109,6 +109,11 @@ impl<A: Narrow, B: Narrow> Program for Pair<A, B> {
     ghost DidItem = { λ old sent new more.
         (FirstDid (λ s m. A.DidItem old.first s new.first m) old.first_ended sent more × (new.second ≡ old.second))
         ⊎ (SecondDid (λ s m. B.DidItem old.second s new.second m) old.second_ended sent more × ((new.first ≡ old.first) ⊎ A.DidNothing old.first new.first)) };
+
+    ghost DidHandle = { λ old from body new. OnMember body
+        (λ item. A.DidHandle old.first from item new.first × (new.second ≡ old.second))
+        (λ item. B.DidHandle old.second from item new.second × (new.first ≡ old.first))
+        × (new.first_ended ≡ old.first_ended) × (new.second_ended ≡ old.second_ended) × (new.vote ≡ old.vote) };
 
     ghost DidNothing = { λ old new. ((new.first ≡ old.first) ⊎ A.DidNothing old.first new.first)
         × ((new.second ≡ old.second) ⊎ B.DidNothing old.second new.second)

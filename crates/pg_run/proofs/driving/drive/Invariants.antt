@@ -1,5 +1,10 @@
-use Rattle.pg_run.specs.Driven.{HaveFollowed}
+use Rattle.std.proofs.Common.{ℕ}
+use Rattle.pg_run.specs.Driven.{HaveFollowed, HadPasses}
 use Rattle.pg_run.proofs.driving.drive.Given as goal
 
 abbrev pub invariant-passes : goal.invariant-passes
-invariant-passes g l = HaveFollowed l.fn.machines l.machines
+invariant-passes g l =
+    record {
+      follow : HaveFollowed l.fn.machines l.machines;
+      passes : (passes : ℕ) × HadPasses passes l.fn.machines l.machines;
+    }

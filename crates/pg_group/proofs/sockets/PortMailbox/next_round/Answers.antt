@@ -1,7 +1,11 @@
-use Rattle.std.proofs.Common.{refl, ap, ◌∙◌, arith, length}
+use Rattle.std.proofs.Common.{refl, sym, ap, ◌∙◌, subst, arith, length}
 use Rattle.pg_group.specs.Envelopes.{bodies}
 use Rattle.pg_group.specs.Ranked.{wired}
 use Rattle.pg_group.proofs.ByRank.{cleared, map_same, kept_along, cleared_along, all_cleared, length_of_map}
+use Rattle.pg_lane.proofs.Order.{out_same, out_on, in_same, in_on}
+use Rattle.pg_lane.specs.EndLater.{OutLater, InLater}
+use Rattle.pg_group.specs.LaterLanes.{AllLater, all-same, all-on}
+use Rattle.pg_group.proofs.Later.{all-set}
 use Rattle.pg_group.proofs.sockets.PortMailbox.next_round.Goals as goal
 
 pub loop-i-preserved : goal.loop-i-preserved
@@ -16,6 +20,7 @@ loop-i-preserved g c =
       sent = kept_along (λ t. bodies (g.K.Out.OutEnd.sent t.end)) ps c.loop-i.i p _ _ c.index_mut.ensures.value refl inv.sent;
       lanes = kept_along (λ t. g.K.Out.OutEnd.lane t.end) ps c.loop-i.i p _ _ c.index_mut.ensures.value refl inv.lanes;
       capacities = kept_along (λ t. g.K.Out.OutEnd.capacity t.end) ps c.loop-i.i p _ _ c.index_mut.ensures.value refl inv.capacities;
+      later = all-on _ (λ a b d. out_on _ a.end b.end d.end) _ ps _ inv.later (all-set _ (λ a. out_same _ a.end) ps c.loop-i.i p _ c.index_mut.ensures.value (out_same _ p.end));
       marks = cleared_along (λ t. t.marked) ps c.loop-i.i _ _ refl inv.marks;
     }
 
@@ -30,6 +35,7 @@ loop-i-2-preserved g c =
       outs = inv.outs;
       taken = kept_along (λ t. bodies (g.K.In.InEnd.taken t.end)) ps c.loop-i-2.i p _ _ c.index_mut-in-loop-i-2.ensures.value refl inv.taken;
       lanes = kept_along (λ t. g.K.In.InEnd.lane t.end) ps c.loop-i-2.i p _ _ c.index_mut-in-loop-i-2.ensures.value refl inv.lanes;
+      later = all-on _ (λ a b d. in_on _ a.end b.end d.end) _ ps _ inv.later (all-set _ (λ a. in_same _ a.end) ps c.loop-i-2.i p _ c.index_mut-in-loop-i-2.ensures.value (in_same _ p.end));
       marks = cleared_along (λ t. t.closed) ps c.loop-i-2.i _ _ refl inv.marks;
     }
 
@@ -58,3 +64,11 @@ returns-clause-same_wiring g c =
     let own = b.own ∙ a.own in
     let size = b.size ∙ a.size in
     λ i. wired (own i).0 (size i) (lanes_out i) (lanes_in i) (capacities i)
+
+pub returns-clause-later : goal.returns-clause-later
+returns-clause-later g c =
+    let a = c.loop-i.invariant in
+    let b = c.loop-i-2.invariant in (
+      subst (λ l. AllLater (λ x y. OutLater g.K.Out.OutEnd x.end y.end) c.args.self.now.outs.items l) (sym b.outs) a.later,
+      subst (λ l. AllLater (λ x y. InLater g.K.In.InEnd x.end y.end) l c.loop-i-2.self.ins.items) a.ins b.later,
+    )

@@ -5,6 +5,9 @@ use Rattle.pg_group.specs.declared.messages.Body.TheVariants.{Item, Mark}
 use Rattle.pg_group.proofs.Lanes.{round_grows}
 use Rattle.pg_group.proofs.Answered.{item_so, mark_so, empty_so, closed_so}
 use Rattle.pg_group.proofs.ByRank.{lane_grown, lane_kept, lane_set, lane_at, lane_at_new, lane_before, lane_after, map-kept}
+use Rattle.pg_lane.proofs.Order.{out_same, in_same}
+use Rattle.pg_group.specs.LaterLanes.{all-same}
+use Rattle.pg_group.proofs.Later.{all-set}
 use Rattle.pg_group.proofs.sockets.PortMailbox.poll.Goals as goal
 
 pub returns-clause-item : goal.returns-clause-item
@@ -81,3 +84,8 @@ returns-clause-same_wiring g c =
     let q = c.take.new.self in
     let lanes = map-kept (λ l. g.K.In.InEnd.lane l.end) port.ins.items c.place-place.result p q c.index_mut.ensures.value c.take.ensures.same_lane in
     λ i. wired port.rank.0 port.ranks (map (λ l. g.K.Out.OutEnd.lane l.end) port.outs.items) (lanes i) (map (λ l. g.K.Out.OutEnd.capacity l.end) port.outs.items)
+
+pub returns-clause-later : goal.returns-clause-later
+returns-clause-later g c =
+    let port = c.args.self.now in
+    (all-same _ (λ a. out_same _ a.end) port.outs.items, all-set _ (λ a. in_same _ a.end) port.ins.items c.place-place.result c.index_mut.result.now c.take.new.self c.index_mut.ensures.value c.take.ensures.later)

@@ -3,6 +3,9 @@ use Rattle.pg_group.specs.Envelopes.{bodies}
 use Rattle.pg_group.specs.Ranked.{wired}
 use Rattle.pg_group.specs.declared.messages.Body.TheVariants.{Mark}
 use Rattle.pg_group.proofs.ByRank.{lane_grown, lane_kept, lane_set, lane_at, lane_before, lane_after, map-kept}
+use Rattle.pg_lane.proofs.Order.{out_same, in_same}
+use Rattle.pg_group.specs.LaterLanes.{all-same}
+use Rattle.pg_group.proofs.Later.{all-set}
 use Rattle.pg_group.proofs.sockets.PortMailbox.send_mark.Goals as goal
 
 pub post-requires : goal.post-requires
@@ -56,3 +59,13 @@ returns-else-post-clause-rest g c =
     let lanes = map-kept (λ l. g.K.Out.OutEnd.lane l.end) port.outs.items c.place-place.result p c.post.new.self c.index_mut.ensures.value c.post.ensures.same_lane in
     let room = map-kept (λ l. g.K.Out.OutEnd.capacity l.end) port.outs.items c.place-place.result p c.post.new.self c.index_mut.ensures.value c.post.ensures.same_capacity in
     (refl, λ i. wired port.rank.0 port.ranks (lanes i) (map (λ l. g.K.In.InEnd.lane l.end) port.ins.items) (room i))
+
+pub returns-then-post-clause-later : goal.returns-then-post-clause-later
+returns-then-post-clause-later g c =
+    let port = c.args.self.now in
+    (all-set _ (λ a. out_same _ a.end) port.outs.items c.place-place.result c.index_mut.result.now c.post.new.self c.index_mut.ensures.value c.post.ensures.later, all-same _ (λ a. in_same _ a.end) port.ins.items)
+
+pub returns-else-post-clause-later : goal.returns-else-post-clause-later
+returns-else-post-clause-later g c =
+    let port = c.args.self.now in
+    (all-set _ (λ a. out_same _ a.end) port.outs.items c.place-place.result c.index_mut.result.now c.post.new.self c.index_mut.ensures.value c.post.ensures.later, all-same _ (λ a. in_same _ a.end) port.ins.items)

@@ -2,11 +2,11 @@
 ghost use Rattle.std.specs.Prelude.{◌≡◌, ◌≤◌, IfOk, length};
 ghost use Rattle.pg_group.specs.Entries.{Each};
 
-use crate::Pair;
 use pg_base::{OpenGate, OutOfMemory, RankNo, Ranks};
 use pg_group::{Program, Roll};
 use pg_lane::RingLanes;
 use pg_run::{Turn, assemble, drive, run};
+use pg_triggers::Pair;
 use std::alloc::Global;
 use std::test::Fail;
 

@@ -2,7 +2,7 @@ use Rattle.std.proofs.Common.{◌≡◌, length}
 use Rattle.std.specs.Prelude.{None}
 use Rattle.pg_group.specs.Entries.{Each}
 use Rattle.pg_group.specs.Rolls.{IsNewRoll}
-use Rattle.pg_triggers.proofs.tests.pairs.Given as goal
+use Rattle.pg_bench.proofs.tests.pairs.Given as goal
 
 abbrev pub invariant-loop-rank : goal.invariant-loop-rank
 invariant-loop-rank l = record {
