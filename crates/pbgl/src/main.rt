@@ -19,7 +19,15 @@ fn main(rt: HostRuntime) -> ExitCode {
     let mut errs = StdSink::errors(rt.stderr());
     let alloc = rt.alloc();
     let mut inputs = FileInputs::new(rt);
-    let answer = command(alloc, &words, &mut inputs, &mut out, &mut errs, &OpenGate);
+    let answer = command(
+        &rt,
+        alloc,
+        &words,
+        &mut inputs,
+        &mut out,
+        &mut errs,
+        &OpenGate,
+    );
     ExitCode::from(answer.status.number())
 }
 

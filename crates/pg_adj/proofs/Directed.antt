@@ -10,7 +10,8 @@ use Rattle.pg_base.specs.Graph.{Graph, Arc as GraphArc, IsEdge, IsGraph, Precede
 use Rattle.pg_adj.specs.declared.arcs.Arc.{Arc}
 use Rattle.pg_base.specs.Keyed.{items_of}
 use Rattle.pg_adj.specs.Incidence.{incidences}
-use Rattle.pg_adj.specs.Division.{Sharing, arc_from, arc_at, arcs_at, no_edge, undivided}
+use Rattle.pg_dist.specs.Sharing.{Sharing}
+use Rattle.pg_adj.specs.Division.{arc_from, arc_at, arcs_at, no_edge, undivided}
 
 forward_is : (s : Sharing) (v k : ℕ) (e : Edge) → e.u ≡ v → undivided v (arc_from s.owner s.local v e k) ≡ forward e
 forward_is s v k e same = rw (eq-eqb e.u v same) (let f : ℕ → GraphArc = λ x. record { from = x; to = e.v; weight = e.w } in ap f (sym same))

@@ -3,12 +3,13 @@ use Rattle.std.proofs.Common.{◌≡◌, ◌≢◌, ℕ, ◌+◌, ◌-◌, ◌<�
 use Rattle.std.proofs.lemmas.Bool.{cases_lt, cases_eq, cases_Bool, cond_both}
 use Rattle.std.proofs.lemmas.List.{length_push, length-append, length-map, length-set, get_or-set_same, get_or-set_other, get_or_default, get_or-replicate, length-replicate}
 use Rattle.std.proofs.lemmas.List.Elements.{filter-append, All-head, All-tail, All-weaker}
-use Rattle.pg_adj.specs.Division.{Sharing, AreRows, vertices_to}
+use Rattle.pg_base.specs.declared.TheConstants.{MAX_VERTICES}
+use Rattle.pg_dist.specs.Sharing.{Sharing, IsSharing}
+use Rattle.pg_adj.specs.Division.{AreRows, vertices_to}
 use Rattle.pg_adj.specs.RankSets.{has, members, no_ranks, ranks_holding, held_up_to, holders_by}
 use Rattle.pg_adj.specs.declared.arcs.Holder.{Holder}
 use Rattle.pg_adj.specs.declared.rank_sets.RankSet.{RankSet}
 use Rattle.pg_adj.specs.declared.holders.HolderRows.{HolderRows}
-use Rattle.pg_adj.proofs.Laws.{Laws}
 use Rattle.pg_adj.proofs.RowsMore.{rows_more}
 use Rattle.pg_adj.proofs.HolderCounts.{holders_to, holders-le, holders_mono, own_holders, no_holders}
 
@@ -48,7 +49,7 @@ filled_whole {X} rows global count n m bounds items h last = elim (cases_lt m co
 ]
 
 -- the next vertex of a rank goes to the first place without a row
-next_place : {X : Type 0} (s : Sharing) → Laws s → (rows : ℕ → List X) (r k m : ℕ) (bounds : List ℕ) (items : List X) → k < s.n → r ≡ s.owner (k + 1)
+next_place : {X : Type 0} (s : Sharing) → IsSharing s → (rows : ℕ → List X) (r k m : ℕ) (bounds : List ℕ) (items : List X) → k < s.n → r ≡ s.owner (k + 1)
     → IsFilledTo rows (s.global r) (s.count r) k m bounds items → s.local (k + 1) ≡ m
 next_place {X} s laws rows r k m bounds items l own h =
     let rank : r < s.ranks = subst (λ (q : ℕ). q < s.ranks) (sym own) (laws.owner_is_rank (k + 1) (omega arith) (omega arith)) in
@@ -62,7 +63,7 @@ next_place {X} s laws rows r k m bounds items l own h =
       ]
     ]
 
-filled_own : {X : Type 0} (s : Sharing) → Laws s → (rows : ℕ → List X) (r k m : ℕ) (bounds bounds' : List ℕ) (items items' more : List X) (last : ℕ)
+filled_own : {X : Type 0} (s : Sharing) → IsSharing s → (rows : ℕ → List X) (r k m : ℕ) (bounds bounds' : List ℕ) (items items' more : List X) (last : ℕ)
     → k < s.n → r ≡ s.owner (k + 1) → IsFilledTo rows (s.global r) (s.count r) k m bounds items → (s.global r m ≡ k + 1 → more ≡ rows m)
     → items' ≡ items ++ more → last ≡ length items' → bounds' ≡ bounds ++ last ∷ []
     → IsFilledTo rows (s.global r) (s.count r) (k + 1) (m + 1) bounds' items'
@@ -83,7 +84,7 @@ filled_own {X} s laws rows r k m bounds bounds' items items' more last l own h s
       later = λ i j b. omega (arith, laws.global_ascends r m i rank (omega arith) b);
     }
 
-filled_other : {X : Type 0} (s : Sharing) → Laws s → (rows : ℕ → List X) (q k m : ℕ) (bounds : List ℕ) (items : List X) → q < s.ranks → q ≢ s.owner (k + 1)
+filled_other : {X : Type 0} (s : Sharing) → IsSharing s → (rows : ℕ → List X) (q k m : ℕ) (bounds : List ℕ) (items : List X) → q < s.ranks → q ≢ s.owner (k + 1)
     → IsFilledTo rows (s.global q) (s.count q) k m bounds items → IsFilledTo rows (s.global q) (s.count q) (k + 1) m bounds items
 filled_other {X} s laws rows q k m bounds items rank other h = record {
   laid = h.laid;
@@ -155,7 +156,7 @@ pub record AreFilledTo (s : Sharing) (sets : List RankSet) (k : ℕ) (rows : Lis
   pub slot : (r : ℕ) → r < s.ranks → get_or slots r 0 ≡ length (held_up_to sets r k)
   pub held : (r : ℕ) (d : HolderRows) → r < s.ranks → length (get_or rows r d).holders.items ≡ holders_to sets s.owner r k
 
-pub none_filled : (s : Sharing) → Laws s → (sets : List RankSet) (count : ℕ) (rows : List HolderRows) (slots : List ℕ) → length rows ≡ s.ranks
+pub none_filled : (s : Sharing) → IsSharing s → (sets : List RankSet) (count : ℕ) (rows : List HolderRows) (slots : List ℕ) → length rows ≡ s.ranks
     → ((r : ℕ) (d : HolderRows) → r < length rows → (get_or rows r d).bounds.items ≡ 0 ∷ []) → ((r : ℕ) (d : HolderRows) → r < length rows → (get_or rows r d).holders.items ≡ [])
     → count ≡ length rows → slots ≡ replicate count 0 → AreFilledTo s sets 0 rows slots
 none_filled s laws sets count rows slots each bounds holders size blank = record {
@@ -171,21 +172,21 @@ none_filled s laws sets count rows slots each bounds holders size blank = record
   held = λ r d l. ap length (holders r d (omega arith));
 }
 
-pub slots_fit : (s : Sharing) → Laws s → (sets : List RankSet) (k : ℕ) (rows : List HolderRows) (slots lent : List ℕ) → AreFilledTo s sets k rows slots → k < s.n → lent ≡ slots
-    → All (λ slot. slot < 1048576) lent
+pub slots_fit : (s : Sharing) → IsSharing s → (sets : List RankSet) (k : ℕ) (rows : List HolderRows) (slots lent : List ℕ) → AreFilledTo s sets k rows slots → k < s.n → lent ≡ slots
+    → All (λ slot. slot < MAX_VERTICES) lent
 slots_fit s laws sets k rows slots lent h l same = rw same (λ r d b.
     let some : get_or slots r d ≡ get_or slots r 0 = get_or_default slots r d 0 b in
     let slot = h.slot r (omega (arith, h.each_slot)) in
     omega (arith, some, slot, kept-le (λ v. has (ranks_holding sets v) r) k, laws.n_within))
 
-pub holders_small : (s : Sharing) → Laws s → (sets : List RankSet) (k r : ℕ) (rows : List HolderRows) (slots : List ℕ) (x : HolderRows) → AreFilledTo s sets k rows slots → k < s.n
+pub holders_small : (s : Sharing) → IsSharing s → (sets : List RankSet) (k r : ℕ) (rows : List HolderRows) (slots : List ℕ) (x : HolderRows) → AreFilledTo s sets k rows slots → k < s.n
     → r ≡ s.owner (k + 1) → x ≡ get_or rows r x → length x.holders.items + 32 < 4294967296
 holders_small s laws sets k r rows slots x h l own is =
     let rank : r < s.ranks = subst (λ (q : ℕ). q < s.ranks) (sym own) (laws.owner_is_rank (k + 1) (omega arith) (omega arith)) in
     omega (arith, ap (λ (z : HolderRows). length z.holders.items) is, h.held r x rank, holders-le sets s.owner r k, laws.n_within)
 
 -- the row of the next vertex's owner
-own_row : (s : Sharing) → Laws s → (sets : List RankSet) (k r : ℕ) (slots : List ℕ) (x y : HolderRows) → All (λ q. q < s.ranks) (members (get_or sets k no_ranks))
+own_row : (s : Sharing) → IsSharing s → (sets : List RankSet) (k r : ℕ) (slots : List ℕ) (x y : HolderRows) → All (λ q. q < s.ranks) (members (get_or sets k no_ranks))
     → ((q : ℕ) → q < s.ranks → get_or slots q 0 ≡ length (held_up_to sets q k)) → k < s.n → r ≡ s.owner (k + 1) → IsRowTo s sets k r x
     → y.holders.items ≡ x.holders.items ++ map (λ q. holder q (get_or slots q 0)) (members (get_or sets k no_ranks)) → y.bounds.items ≡ x.bounds.items ++ length y.holders.items ∷ []
     → IsRowTo s sets (k + 1) r y
@@ -198,7 +199,7 @@ own_row s laws sets k r slots x y of_group slot l own h put grown =
     (map (λ q. holder q (get_or slots q 0)) (members (get_or sets k no_ranks))) (length y.holders.items) l own h
     (λ at. holders_next sets s.ranks k (s.global r m) slots of_group slot at) put refl grown)
 
-pub more_filled : (s : Sharing) → Laws s → (sets : List RankSet) (k r : ℕ) (rows : List HolderRows) (slots lent slots' : List ℕ) (x y : HolderRows)
+pub more_filled : (s : Sharing) → IsSharing s → (sets : List RankSet) (k r : ℕ) (rows : List HolderRows) (slots lent slots' : List ℕ) (x y : HolderRows)
     → All (λ q. q < s.ranks) (members (get_or sets k no_ranks)) → k < s.n → r ≡ s.owner (k + 1) → AreFilledTo s sets k rows slots → x ≡ get_or rows r x → lent ≡ slots
     → y.holders.items ≡ x.holders.items ++ map (λ q. holder q (get_or lent q 0)) (members (get_or sets k no_ranks)) → y.bounds.items ≡ x.bounds.items ++ length y.holders.items ∷ []
     → length slots' ≡ length lent → ((q : ℕ) → q < length lent → get_or slots' q 0 ≡ get_or lent q 0 + (if has (get_or sets k no_ranks) q then 1 else 0))
@@ -241,7 +242,7 @@ more_filled s laws sets k r rows slots lent slots' x y of_group l own h is same 
       ];
     }
 
-pub all_filled : (s : Sharing) → Laws s → (sets : List RankSet) (k : ℕ) (rows : List HolderRows) (slots : List ℕ) → AreFilledTo s sets k rows slots → k ≡ s.n
+pub all_filled : (s : Sharing) → IsSharing s → (sets : List RankSet) (k : ℕ) (rows : List HolderRows) (slots : List ℕ) → AreFilledTo s sets k rows slots → k ≡ s.n
     → (r : ℕ) (d : HolderRows) → r < s.ranks → AreRows (λ i. holders_by sets (s.global r i)) (s.count r) (get_or rows r d).bounds.items (get_or rows r d).holders.items
 all_filled s laws sets k rows slots h end = λ r d l.
     filled_whole (λ i. holders_by sets (s.global r i)) (s.global r) (s.count r) k (length (get_or rows r d).bounds.items - 1) (get_or rows r d).bounds.items (get_or rows r d).holders.items
@@ -272,7 +273,7 @@ room_stays s sets rows r x y h inside is bounds holders = record {
 }
 
 -- there is room for the next vertex's row
-pub room_for_next : (s : Sharing) → Laws s → (sets : List RankSet) (k r : ℕ) (rows : List HolderRows) (slots : List ℕ) (x : HolderRows) → AreFilledTo s sets k rows slots → HaveRoom s sets rows
+pub room_for_next : (s : Sharing) → IsSharing s → (sets : List RankSet) (k r : ℕ) (rows : List HolderRows) (slots : List ℕ) (x : HolderRows) → AreFilledTo s sets k rows slots → HaveRoom s sets rows
     → k < s.n → r ≡ s.owner (k + 1) → x ≡ get_or rows r x
     → (length x.bounds.items < vec_capacity x.bounds) × (length x.holders.items + length (members (get_or sets k no_ranks)) ≤ vec_capacity x.holders)
 room_for_next s laws sets k r rows slots x h room l own is =

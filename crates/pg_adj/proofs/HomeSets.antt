@@ -9,10 +9,10 @@ use Rattle.pg_base.specs.Keyed.{row_of}
 use Rattle.pg_adj.specs.declared.arcs.Arc.{Arc}
 use Rattle.pg_adj.specs.declared.rank_sets.RankSet.{RankSet}
 use Rattle.pg_adj.specs.RankSets.{has}
-use Rattle.pg_adj.specs.Division.{Sharing, AreRows, arcs_at}
-use Rattle.pg_adj.proofs.Laws.{Laws}
+use Rattle.pg_dist.specs.Sharing.{Sharing, IsSharing}
+use Rattle.pg_adj.specs.Division.{AreRows, arcs_at}
 
-module _ (s : Sharing) (laws : Laws s) (q : ℕ) (rank : q < s.ranks) (i : ℕ) (place : i < s.count q) (v : ℕ) (is : v ≡ s.global q i)
+module _ (s : Sharing) (laws : IsSharing s) (q : ℕ) (rank : q < s.ranks) (i : ℕ) (place : i < s.count q) (v : ℕ) (is : v ≡ s.global q i)
     (sets : List RankSet) (size : ℕ) (whole : size ≡ s.n) (each : length sets ≡ size) (x : RankSet) where
   -- a vertex of another rank or place stands elsewhere
   elsewhere : (k : ℕ) → (s.owner (k + 1) ≡ q → s.local (k + 1) ≢ i) → k ≢ v - 1
@@ -43,7 +43,7 @@ row_by_key {X} bounds lent items lent' i el el' =
     ap (λ (k : ℕ). row_of lent lent' k) at ∙ (ap (λ (bs : List ℕ). row_of bs lent' i) el ∙ ap (λ (xs : List X). row_of bounds xs i) el')
 
 -- the vertices of one rank more have their sets
-pub sets_more : (s : Sharing) → Laws s → (edges : List Edge) (q : ℕ) (bounds : List ℕ) (arcs : List Arc) → AreRows (λ i. arcs_at s edges (s.global q i)) (s.count q) bounds arcs
+pub sets_more : (s : Sharing) → IsSharing s → (edges : List Edge) (q : ℕ) (bounds : List ℕ) (arcs : List Arc) → AreRows (λ i. arcs_at s edges (s.global q i)) (s.count q) bounds arcs
     → (old lent new : List RankSet) → length old ≡ s.n → lent ≡ old
     → ((r k : ℕ) (d : RankSet) → k < s.n → s.owner (k + 1) < q → has (get_or old k d) r ≡ list_any (λ a. eqb a.home.0 r && not (eqb a.home.0 (s.owner (k + 1)))) (arcs_at s edges (k + 1)))
     → ((r k : ℕ) (d : RankSet) → k < length lent → s.owner (k + 1) ≡ q → has (get_or new k d) r ≡ list_any (λ a. eqb a.home.0 r && not (eqb a.home.0 q)) (row_of bounds arcs (s.local (k + 1))))

@@ -10,8 +10,9 @@ use Rattle.pg_base.specs.Graph.{IsEdge}
 use Rattle.pg_base.specs.Keyed.{row_of, items_of}
 use Rattle.pg_adj.specs.declared.arcs.Arc.{Arc}
 use Rattle.pg_adj.specs.Incidence.{incidences}
-use Rattle.pg_adj.specs.Division.{Sharing, AreRows, arc_at, arcs_at, other_end, no_edge, leads_abroad}
-use Rattle.pg_adj.proofs.Laws.{Laws, all_from_rows, all_arcs_at, end_within}
+use Rattle.pg_dist.specs.Sharing.{Sharing, IsSharing}
+use Rattle.pg_adj.specs.Division.{AreRows, arc_at, arcs_at, other_end, no_edge, leads_abroad}
+use Rattle.pg_adj.proofs.Sharings.{all_from_rows, all_arcs_at, end_within}
 
 -- The vertex is an end of the edge.
 abbrev IsEndOf : Edge → ℕ → Type 0
@@ -134,7 +135,7 @@ same_bools true b f g = sym (f refl)
 same_bools false true f g = g refl
 same_bools false false f g = refl
 
-module _ (s : Sharing) (laws : Laws s) (edges : List Edge) (within : All (IsEdge s.n) edges) (r : ℕ) (rank : r < s.ranks) (bounds : List ℕ) (arcs : List Arc)
+module _ (s : Sharing) (laws : IsSharing s) (edges : List Edge) (within : All (IsEdge s.n) edges) (r : ℕ) (rank : r < s.ranks) (bounds : List ℕ) (arcs : List Arc)
     (rows : AreRows (λ i. arcs_at s edges (s.global r i)) (s.count r) bounds arcs) (v : ℕ) where
   abbrev to_abroad : Arc → Bool
   to_abroad a = eqb a.to.0 v && not (eqb a.home.0 r)
@@ -188,19 +189,19 @@ module _ (s : Sharing) (laws : Laws s) (edges : List Edge) (within : All (IsEdge
       subst P found.3 (arcs_of_edges P s edges v out_along found.0 found.1 found.2) found.4)
 
 -- the homes of arcs are ranks of the group
-home_within : (s : Sharing) → Laws s → (edges : List Edge) → All (IsEdge s.n) edges → (v : ℕ) → All (λ a. a.home.0 < s.ranks) (arcs_at s edges v)
+home_within : (s : Sharing) → IsSharing s → (edges : List Edge) → All (IsEdge s.n) edges → (v : ℕ) → All (λ a. a.home.0 < s.ranks) (arcs_at s edges v)
 home_within s laws edges within v =
     all_arcs_at (λ a. a.home.0 < s.ranks) s edges v (λ k l.
     let is = end_within s.n (get_or edges k no_edge) v (within k no_edge l) in
     laws.owner_is_rank (other_end (get_or edges k no_edge) v) is.first is.last)
 
-pub homes_few : (s : Sharing) → Laws s → (edges : List Edge) → All (IsEdge s.n) edges → s.ranks ≤ 32 → (r : ℕ) (bounds : List ℕ) (arcs : List Arc)
+pub homes_few : (s : Sharing) → IsSharing s → (edges : List Edge) → All (IsEdge s.n) edges → s.ranks ≤ 32 → (r : ℕ) (bounds : List ℕ) (arcs : List Arc)
     → AreRows (λ i. arcs_at s edges (s.global r i)) (s.count r) bounds arcs → All (λ a. a.home.0 < 32) arcs
 homes_few s laws edges within few r bounds arcs rows =
     all_from_rows (λ a. a.home.0 < 32) (λ i. arcs_at s edges (s.global r i)) (s.count r) bounds arcs rows
     (λ i l. All-weaker (λ a. a.home.0 < s.ranks) (λ a. a.home.0 < 32) (λ a h. omega arith) (arcs_at s edges (s.global r i)) (home_within s laws edges within (s.global r i)))
 
-pub no_home : (s : Sharing) → Laws s → (edges : List Edge) → All (IsEdge s.n) edges → (v q r : ℕ) → s.ranks ≤ r → list_any (λ a. eqb a.home.0 r && not (eqb a.home.0 q)) (arcs_at s edges v) ≡ false
+pub no_home : (s : Sharing) → IsSharing s → (edges : List Edge) → All (IsEdge s.n) edges → (v q r : ℕ) → s.ranks ≤ r → list_any (λ a. eqb a.home.0 r && not (eqb a.home.0 q)) (arcs_at s edges v) ≡ false
 no_home s laws edges within v q r past =
     list_any_none (λ a. eqb a.home.0 r && not (eqb a.home.0 q)) (arcs_at s edges v)
     (All-weaker (λ a. a.home.0 < s.ranks) (λ a. (eqb a.home.0 r && not (eqb a.home.0 q)) ≡ false)

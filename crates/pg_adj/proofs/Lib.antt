@@ -1,7 +1,7 @@
 mod UpAndDown
 mod RowsMore
 mod HoldersMore
-mod Laws
+mod Sharings
 mod Ascending
 mod PartsOf
 mod Directed
@@ -25,3 +25,9 @@ mod PushHolders
 mod HolderCounts
 mod Homes
 mod HomeSets
+pub mod MirrorLists
+pub mod MirrorHoldings
+pub mod MirrorGhosts
+pub mod Mirror
+pub mod SlotTables
+pub mod FewGhosts

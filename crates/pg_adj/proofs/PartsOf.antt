@@ -14,14 +14,15 @@ use Rattle.pg_adj.specs.declared.shares.Share.{Share}
 use Rattle.pg_adj.specs.Portions.{Portion, IsVertex, IsForeign, IsOwnArc, IsPortion}
 use Rattle.pg_base.specs.Keyed.{items_of}
 use Rattle.pg_adj.specs.Holdings.{holdings, holdings_of}
-use Rattle.pg_adj.specs.Division.{Sharing, AreRows, IsShare, IsPartOf, arc_at, arcs_at, other_end, no_edge, leads_abroad, vertices_to, ghost_of, ghosts_of, undivided}
+use Rattle.pg_dist.specs.Sharing.{Sharing, IsSharing}
+use Rattle.pg_adj.specs.Division.{AreRows, IsShare, IsPartOf, arc_at, arcs_at, other_end, no_edge, leads_abroad, vertices_to, ghost_of, ghosts_of, undivided}
 use Rattle.std.specs.List.{AllPairs}
 use Rattle.pg_adj.proofs.Directed.{directed, ascending}
 use Rattle.pg_adj.proofs.Ascending.{vertices_to-within, ghosts_ascend, holders_ascend}
 use Rattle.pg_adj.specs.Shares.{ghost_lists, IsShareOf}
 use Rattle.pg_base.proofs.KeyedRows.{items_of-append}
 use Rattle.pg_adj.proofs.SideBySide.{StandsAt}
-use Rattle.pg_adj.proofs.Laws.{Laws, count-le, own_within, all_from_rows, end_within, all_arcs_at, homes_known, rows_same}
+use Rattle.pg_adj.proofs.Sharings.{count-le, own_within, all_from_rows, end_within, all_arcs_at, homes_known, rows_same}
 
 -- What is so of a ghost of the rank r.
 pub record IsGhostOf (s : Sharing) (r : ℕ) (g : Ghost) : Type 0 where
@@ -113,7 +114,7 @@ holders_all s rank (gs ∷ lists) v h =
     subst (λ (xs : List Holder). All P xs) (sym (items_of-append (holdings_of rank 0 gs) (holdings (rank + 1) lists) v))
     (All-append P (items_of (holdings_of rank 0 gs) v) (items_of (holdings (rank + 1) lists) v) first rest)
 
-arc_ok : (s : Sharing) → Laws s → (g : Graph) → IsGraph g → g.n ≡ s.n → (r : ℕ) → r < s.ranks → (p : Portion) → p.rank ≡ r → p.ranks ≡ s.ranks → p.n ≡ g.n
+arc_ok : (s : Sharing) → IsSharing s → (g : Graph) → IsGraph g → g.n ≡ s.n → (r : ℕ) → r < s.ranks → (p : Portion) → p.rank ≡ r → p.ranks ≡ s.ranks → p.n ≡ g.n
     → IsShare s g.edges r p.vertices p.bounds p.arcs p.ghosts → (v k : ℕ) → k < length g.edges → IsOwnArc p (arc_at s.owner s.local g.edges v k)
 arc_ok s laws g graph same r rank p is_rank is_ranks is_n share v k l =
     let e : Edge = get_or g.edges k no_edge in
@@ -134,12 +135,12 @@ arc_ok s laws g graph same r rank p is_rank is_ranks is_n share v k l =
           let at : s.owner to ≡ r = h ∙ is_rank in
           let own : s.count (s.owner to) ≡ s.count r = ap s.count at in
           share.vertex (s.local to) (omega (arith, local)) ∙ (ap (λ (i : ℕ). s.global i (s.local to)) (sym at) ∙ back);
-      weight = edge.weight;
+      weight = graph.positive k no_edge l;
       edge = omega (arith, graph.size);
     }
 
 -- a rank's vertices ascend
-own_ascend : (s : Sharing) → Laws s → (r : ℕ) (vertices : List ℕ) → r < s.ranks → length vertices ≡ s.count r
+own_ascend : (s : Sharing) → IsSharing s → (r : ℕ) (vertices : List ℕ) → r < s.ranks → length vertices ≡ s.count r
     → ((i : ℕ) → i < s.count r → get_or vertices i 0 ≡ s.global r i) → AllPairs (λ v w. v < w) vertices
 own_ascend s laws r vertices rank count each = λ i j d less l.
     let l' : i < length vertices = omega arith in
@@ -148,14 +149,14 @@ own_ascend s laws r vertices rank count each = λ i j d less l.
     omega (arith, laws.global_ascends r i j rank less (omega arith))
 
 -- no vertex of another rank is one of them
-own_apart : (s : Sharing) → Laws s → (r : ℕ) (vertices : List ℕ) → r < s.ranks → length vertices ≡ s.count r
+own_apart : (s : Sharing) → IsSharing s → (r : ℕ) (vertices : List ℕ) → r < s.ranks → length vertices ≡ s.count r
     → ((i : ℕ) → i < s.count r → get_or vertices i 0 ≡ s.global r i) → (v : ℕ) → s.owner v ≢ r → All (λ w. w ≢ v) vertices
 own_apart s laws r vertices rank count each v abroad = λ i d l e.
     let l' : i < s.count r = omega arith in
     let same : get_or vertices i d ≡ s.global r i = get_or_default vertices i d 0 l ∙ each i l' in
     abroad (ap s.owner (sym e ∙ same) ∙ laws.owner_of_global r i rank l')
 
-pub portion_ok : (s : Sharing) → Laws s → (g : Graph) → IsGraph g → g.n ≡ s.n → (shares : List Share) → AreSharesOf s g.edges shares → (r : ℕ) → r < s.ranks
+pub portion_ok : (s : Sharing) → IsSharing s → (g : Graph) → IsGraph g → g.n ≡ s.n → (shares : List Share) → AreSharesOf s g.edges shares → (r : ℕ) → r < s.ranks
     → (p : Portion) → IsPartOf s g (ghost_lists shares) r p → IsPortion p
 portion_ok s laws g graph same shares are r rank p h =
     let size = length-map shares (λ (x : Share). x.ghosts.items) in

@@ -6,10 +6,11 @@ use Rattle.pg_adj.specs.declared.ghosts.GhostList.{GhostList}
 use Rattle.pg_adj.specs.declared.rows.ArcRows.{ArcRows}
 use Rattle.pg_adj.specs.declared.rank_sets.RankSet.{RankSet}
 use Rattle.pg_adj.specs.declared.shares.Share.{Share}
-use Rattle.pg_adj.specs.Division.{Sharing, AreRows, arcs_at, ghost_of, ghosts_of}
+use Rattle.pg_dist.specs.Sharing.{Sharing}
+use Rattle.pg_adj.specs.Division.{AreRows, arcs_at, ghost_of, ghosts_of}
 use Rattle.pg_adj.specs.RankSets.{held_up_to}
 use Rattle.pg_adj.specs.Shares.{IsShareOf}
-use Rattle.pg_adj.proofs.Laws.{rows_same}
+use Rattle.pg_adj.proofs.Sharings.{rows_same}
 use Rattle.pg_adj.proofs.SideBySide.{StandsAt}
 
 -- The vertices of the rank r, these rows of it, and what the sets say that it holds.

@@ -8,12 +8,13 @@ use Rattle.pg_adj.specs.declared.arcs.Holder.{Holder}
 use Rattle.pg_adj.specs.declared.rank_sets.RankSet.{RankSet}
 use Rattle.pg_adj.specs.declared.rows.ArcRows.{ArcRows}
 use Rattle.pg_adj.specs.declared.shares.Share.{Share}
-use Rattle.pg_adj.specs.Division.{Sharing, AreRows, arcs_at, ghost_of, leads_abroad}
+use Rattle.pg_dist.specs.Sharing.{Sharing, IsSharing}
+use Rattle.pg_adj.specs.Division.{AreRows, arcs_at, ghost_of, leads_abroad}
 use Rattle.pg_adj.specs.Holdings.{holdings}
 use Rattle.pg_adj.specs.RankSets.{has, members, HaveRanksBelow, no_ranks, ranks_holding, held_up_to, holders_by}
 use Rattle.pg_adj.specs.Shares.{IsShareOf, ghost_lists}
 use Rattle.pg_adj.proofs.HeldBySets.{holders_are, held_is_abroad}
-use Rattle.pg_adj.proofs.Laws.{Laws, rows_same}
+use Rattle.pg_adj.proofs.Sharings.{rows_same}
 use Rattle.pg_adj.proofs.PartsOf.{first_share}
 use Rattle.pg_adj.proofs.SharesOf.{IsOfRank, share_is}
 
@@ -36,7 +37,7 @@ lists_are_held s sets shares count ghosts r d l =
     get_or-map (λ (x : Share). x.ghosts.items) shares r e d l' ∙ ghosts r e (omega arith)
 
 -- so the holders by sets are those by the shares' ghosts
-pub holders_of_sets : (s : Sharing) → Laws s → s.ranks ≤ 32 → (sets seen : List RankSet) (shares : List Share) → seen ≡ sets → length seen ≡ s.n → HaveRanksBelow s.ranks seen → length shares ≡ s.ranks
+pub holders_of_sets : (s : Sharing) → IsSharing s → s.ranks ≤ 32 → (sets seen : List RankSet) (shares : List Share) → seen ≡ sets → length seen ≡ s.n → HaveRanksBelow s.ranks seen → length shares ≡ s.ranks
     → ((r : ℕ) (d : Share) → r < s.ranks → (get_or shares r d).ghosts.items ≡ map (ghost_of s.owner s.local) (held_up_to seen r s.n))
     → (r : ℕ) → r < s.ranks → (bounds : List ℕ) (items : List Holder) → AreRows (λ i. holders_by sets (s.global r i)) (s.count r) bounds items
     → AreRows (λ i. items_of (holdings 0 (ghost_lists shares)) (s.global r i)) (s.count r) bounds items

@@ -6,6 +6,7 @@ use Rattle.pg_base.specs.declared.edges.Edge.{Edge}
 use Rattle.pg_adj.specs.declared.arcs.Arc.{Arc}
 use Rattle.pg_adj.specs.declared.arcs.Ghost.{Ghost}
 use Rattle.pg_base.specs.Graph.{Graph, Arc as GraphArc, arcs_of, arcs_from}
+use Rattle.pg_dist.specs.Sharing.{Sharing}
 use Rattle.pg_adj.specs.Portions.{Portion}
 use Rattle.pg_base.specs.Keyed.{row_of, AreBounds}
 use Rattle.pg_base.specs.Keyed.{items_of}
@@ -57,15 +58,6 @@ ghost_of owner local v = record { vertex = record { 0 = v }; home = record { 0 =
 -- The vertices of other ranks that the arcs of r lead to, ascending.
 abbrev pub ghosts_of : (ℕ → ℕ) → (ℕ → ℕ) → ℕ → ℕ → List Arc → List Ghost
 ghosts_of owner local n r arcs = map (ghost_of owner local) (filter (leads_abroad r arcs) (vertices_to n))
-
--- Which rank owns each vertex, and at which place: what a distribution says.
-pub record Sharing : Type 0 where
-  pub n : ℕ
-  pub ranks : ℕ
-  pub owner : ℕ → ℕ
-  pub local : ℕ → ℕ
-  pub count : ℕ → ℕ
-  pub global : ℕ → ℕ → ℕ
 
 -- The arcs from the vertex v, in the order of the edges.
 abbrev pub arcs_at : Sharing → List Edge → ℕ → List Arc

@@ -5,4 +5,6 @@ pub mod Holdings
 pub mod Shares
 pub mod Leaving
 pub mod Blocks
+pub mod Mirrored
+pub mod ArcSlots
 pub mod RankSets

@@ -3,7 +3,8 @@ use Rattle.std.specs.Prelude.{ℕ, List, map}
 use Rattle.pg_adj.specs.declared.arcs.Ghost.{Ghost}
 use Rattle.pg_adj.specs.declared.shares.Share.{Share}
 use Rattle.pg_base.specs.declared.edges.Edge.{Edge}
-use Rattle.pg_adj.specs.Division.{Sharing, IsShare}
+use Rattle.pg_dist.specs.Sharing.{Sharing}
+use Rattle.pg_adj.specs.Division.{IsShare}
 
 -- The ghosts of each.
 abbrev pub ghost_lists : List Share → List (List Ghost)

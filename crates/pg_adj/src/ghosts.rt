@@ -33,23 +33,15 @@ pub fn holding_ranks<D: Distribution>(
     dist: &D,
     rows: &[ArcRows],
 ) -> Result<Vec<RankSet>, AllocError>
-    requires n { graph.now.n ≡ D.n dist.now }
-    requires count { length rows.now ≡ D.ranks dist.now }
-    requires few { D.ranks dist.now ≤ MAX_RANKS }
-    requires row { (r : ℕ) (d : ArcRows) → r < D.ranks dist.now
-        → AreRows (λ i. arcs_at (record {
-          n = D.n dist.now;
-          ranks = D.ranks dist.now;
-          owner = D.owner dist.now;
-          local = D.local dist.now;
-          count = D.count dist.now;
-          global = D.global dist.now;
-        })
-        graph.now.edges (D.global dist.now r i)) (D.count dist.now r)
+    requires n { graph.now.n ≡ (D.sharing dist.now).n }
+    requires count { length rows.now ≡ (D.sharing dist.now).ranks }
+    requires few { (D.sharing dist.now).ranks ≤ MAX_RANKS }
+    requires row { (r : ℕ) (d : ArcRows) → r < (D.sharing dist.now).ranks
+        → AreRows (λ i. arcs_at (D.sharing dist.now) graph.now.edges ((D.sharing dist.now).global r i)) ((D.sharing dist.now).count r)
         (slice_index_or rows.now r d).bounds.items (slice_index_or rows.now r d).arcs.items }
-    ensures each { IfOk result (λ sets. length sets.items ≡ D.n dist.now) }
-    ensures ranks { IfOk result (λ sets. HaveRanksBelow (D.ranks dist.now) sets.items) }
-    ensures sets { IfOk result (λ sets. (r k : ℕ) (d : ArcRows) (e : RankSet) → r < D.ranks dist.now → k < D.n dist.now
+    ensures each { IfOk result (λ sets. length sets.items ≡ (D.sharing dist.now).n) }
+    ensures ranks { IfOk result (λ sets. HaveRanksBelow (D.sharing dist.now).ranks sets.items) }
+    ensures sets { IfOk result (λ sets. (r k : ℕ) (d : ArcRows) (e : RankSet) → r < (D.sharing dist.now).ranks → k < (D.sharing dist.now).n
         → has (slice_index_or sets.items k e) r ≡ leads_abroad r (slice_index_or rows.now r d).arcs.items (k + 1)) }
 {
     let mut sets = vec![in alloc; RankSet::new(); graph.n() as usize]?;
@@ -61,15 +53,15 @@ pub fn holding_ranks<D: Distribution>(
 
 // Makes the set of each own vertex that of the other ranks that its arcs lead to.
 fn set_holding_ranks<D: Distribution>(dist: &D, rank: RankNo, own: &ArcRows, sets: &mut [RankSet])
-    requires rank { rank.0 < D.ranks dist.now }
-    requires each { length sets.old ≡ D.n dist.now }
-    requires bounds { AreBounds (D.count dist.now rank.0) own.now.bounds.items (length own.now.arcs.items) }
+    requires rank { rank.0 < (D.sharing dist.now).ranks }
+    requires each { length sets.old ≡ (D.sharing dist.now).n }
+    requires bounds { AreBounds ((D.sharing dist.now).count rank.0) own.now.bounds.items (length own.now.arcs.items) }
     requires homes { All (λ a. a.home.0 < MAX_RANKS) own.now.arcs.items }
     ensures each { length sets.new ≡ length sets.old }
-    ensures own { (r k : ℕ) (d : RankSet) → k < length sets.old → D.owner dist.now (k + 1) ≡ rank.0
+    ensures own { (r k : ℕ) (d : RankSet) → k < length sets.old → (D.sharing dist.now).owner (k + 1) ≡ rank.0
         → has (slice_index_or sets.new k d) r
-        ≡ list_any (λ a. a.home.0 == r && not (a.home.0 == rank.0)) (row_of own.now.bounds.items own.now.arcs.items (D.local dist.now (k + 1))) }
-    ensures others { (k : ℕ) (d : RankSet) → k < length sets.old → D.owner dist.now (k + 1) ≢ rank.0
+        ≡ list_any (λ a. a.home.0 == r && not (a.home.0 == rank.0)) (row_of own.now.bounds.items own.now.arcs.items ((D.sharing dist.now).local (k + 1))) }
+    ensures others { (k : ℕ) (d : RankSet) → k < length sets.old → (D.sharing dist.now).owner (k + 1) ≢ rank.0
         → slice_index_or sets.new k d ≡ slice_index_or sets.old k d }
 {
     for i in 0..dist.count(rank) {
@@ -99,12 +91,12 @@ pub fn ghosts_by_rank<D: Distribution>(
     dist: &D,
     sets: &[RankSet],
 ) -> Result<Vec<GhostList>, AllocError>
-    requires each { length sets.now ≡ D.n dist.now }
-    requires ranks { HaveRanksBelow (D.ranks dist.now) sets.now }
-    ensures count { IfOk result (λ lists. length lists.items ≡ D.ranks dist.now) }
-    ensures list { IfOk result (λ lists. (r : ℕ) (d : GhostList) → r < D.ranks dist.now
+    requires each { length sets.now ≡ (D.sharing dist.now).n }
+    requires ranks { HaveRanksBelow (D.sharing dist.now).ranks sets.now }
+    ensures count { IfOk result (λ lists. length lists.items ≡ (D.sharing dist.now).ranks) }
+    ensures list { IfOk result (λ lists. (r : ℕ) (d : GhostList) → r < (D.sharing dist.now).ranks
         → (slice_index_or lists.items r d).ghosts.items
-        ≡ map (ghost_of (D.owner dist.now) (D.local dist.now)) (held_up_to sets.now r (D.n dist.now))) }
+        ≡ map (ghost_of (D.sharing dist.now).owner (D.sharing dist.now).local) (held_up_to sets.now r (D.sharing dist.now).n)) }
 {
     let mut lists = empty_lists(alloc, &ghost_counts(alloc, dist.ranks().count(), sets)?)?;
     for (k, set) in sets.iter().enumerate() {
@@ -175,8 +167,8 @@ fn push_ghost(set: RankSet, held: Ghost, lists: &mut [GhostList])
 
 // The vertex v as a ghost.
 fn ghost_at<D: Distribution>(dist: &D, v: u32) -> Ghost
-    requires { IsVertex (D.n dist.now) v }
-    ensures { result ≡ ghost_of (D.owner dist.now) (D.local dist.now) v }
+    requires { IsVertex (D.sharing dist.now).n v }
+    ensures { result ≡ ghost_of (D.sharing dist.now).owner (D.sharing dist.now).local v }
 {
     let vertex = Vertex(v);
     Ghost {

@@ -28,11 +28,11 @@ pub fn holder_rows<D: Distribution>(
     dist: &D,
     sets: &[RankSet],
 ) -> Result<Vec<HolderRows>, AllocError>
-    requires each { length sets.now ≡ D.n dist.now }
-    requires ranks { HaveRanksBelow (D.ranks dist.now) sets.now }
-    ensures count { IfOk result (λ rows. length rows.items ≡ D.ranks dist.now) }
-    ensures row { IfOk result (λ rows. (r : ℕ) (d : HolderRows) → r < D.ranks dist.now
-        → AreRows (λ i. holders_by sets.now (D.global dist.now r i)) (D.count dist.now r)
+    requires each { length sets.now ≡ (D.sharing dist.now).n }
+    requires ranks { HaveRanksBelow (D.sharing dist.now).ranks sets.now }
+    ensures count { IfOk result (λ rows. length rows.items ≡ (D.sharing dist.now).ranks) }
+    ensures row { IfOk result (λ rows. (r : ℕ) (d : HolderRows) → r < (D.sharing dist.now).ranks
+        → AreRows (λ i. holders_by sets.now ((D.sharing dist.now).global r i)) ((D.sharing dist.now).count r)
         (slice_index_or rows.items r d).bounds.items (slice_index_or rows.items r d).holders.items) }
 {
     let mut rows = empty_rows(alloc, dist, &holder_counts(alloc, dist, sets)?)?;
@@ -50,10 +50,10 @@ fn holder_counts<D: Distribution>(
     dist: &D,
     sets: &[RankSet],
 ) -> Result<Vec<u32>, AllocError>
-    requires each { length sets.now ≡ D.n dist.now }
-    ensures each { IfOk result (λ counts. length counts.items ≡ D.ranks dist.now) }
-    ensures held { IfOk result (λ counts. (r : ℕ) → r < D.ranks dist.now → slice_index counts.items r
-        ≡ sum_by (λ v. if D.owner dist.now v == r then length (members (ranks_holding sets.now v)) else 0) (vertices_to (D.n dist.now))) }
+    requires each { length sets.now ≡ (D.sharing dist.now).n }
+    ensures each { IfOk result (λ counts. length counts.items ≡ (D.sharing dist.now).ranks) }
+    ensures held { IfOk result (λ counts. (r : ℕ) → r < (D.sharing dist.now).ranks → slice_index counts.items r
+        ≡ sum_by (λ v. if (D.sharing dist.now).owner v == r then length (members (ranks_holding sets.now v)) else 0) (vertices_to (D.sharing dist.now).n)) }
 {
     let mut counts = vec![in alloc; 0; dist.ranks().count() as usize]?;
     for (k, set) in sets.iter().enumerate() {
@@ -69,14 +69,14 @@ fn empty_rows<D: Distribution>(
     dist: &D,
     counts: &[u32],
 ) -> Result<Vec<HolderRows>, AllocError>
-    requires { length counts.now ≡ D.ranks dist.now }
+    requires { length counts.now ≡ (D.sharing dist.now).ranks }
     ensures each { IfOk result (λ rows. length rows.items ≡ length counts.now) }
     ensures row { IfOk result (λ rows. (r : ℕ) (d : HolderRows) → r < length counts.now
         → (slice_index_or rows.items r d).bounds.items ≡ 0 ∷ []) }
     ensures empty { IfOk result (λ rows. (r : ℕ) (d : HolderRows) → r < length counts.now
         → (slice_index_or rows.items r d).holders.items ≡ []) }
     ensures places { IfOk result (λ rows. (r : ℕ) (d : HolderRows) → r < length counts.now
-        → vec_capacity (slice_index_or rows.items r d).bounds ≡ D.count dist.now r + 1) }
+        → vec_capacity (slice_index_or rows.items r d).bounds ≡ (D.sharing dist.now).count r + 1) }
     ensures room { IfOk result (λ rows. (r : ℕ) (d : HolderRows) → r < length counts.now
         → vec_capacity (slice_index_or rows.items r d).holders ≡ slice_index counts.now r) }
 {

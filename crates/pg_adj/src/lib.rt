@@ -2,11 +2,13 @@
 //! these arcs lead to (its ghosts), and for each own vertex the ranks that hold it as a ghost.
 #![tactic(auto)]
 
+mod arc_slots;
 mod arcs;
 mod blocks;
 mod filling;
 mod ghosts;
 mod holders;
+pub mod laws;
 mod parts;
 mod rank_sets;
 mod rows;

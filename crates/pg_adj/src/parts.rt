@@ -1,14 +1,17 @@
 //! One rank's part of a divided graph.
 
-ghost use Rattle.std.specs.Prelude.{◌≡◌, ◌≢◌, ◌<◌, ◌≤◌, All, AllPairs, length, slice_index};
+ghost use Rattle.std.specs.Prelude.{◌≡◌, ◌≢◌, ◌<◌, ◌≤◌, All, AllPairs, IfOk, length, slice_index};
+ghost use Rattle.pg_adj.specs.ArcSlots.{AreSlotsOf};
 ghost use Rattle.pg_adj.specs.Portions.{IsOwnArc, IsForeign, IsVertex, IsPortion};
 ghost use Rattle.pg_base.specs.Keyed.{row_of};
 
+use crate::arc_slots::slots_of;
 use crate::holders::HolderRows;
 use crate::shares::Share;
 use crate::{Arc, Ghost, Holder};
 use pg_base::rows::row_at;
-use pg_base::{RankNo, Ranks, Vertex};
+use pg_base::{OutOfMemory, RankNo, Ranks, Vertex};
+use std::alloc::Global;
 use std::marker::Model;
 
 /// What one rank holds of a divided graph. Its own vertices have the places from 0 to its count; the arcs
@@ -118,7 +121,8 @@ impl Part {
 
     /// The number of vertices of the whole graph.
     pub fn n(&self) -> u32
-        ensures { result ≡ self.now.n }
+        ensures value { result ≡ self.now.n }
+        ensures portion { IsPortion self.now }
     {
         self.n
     }
@@ -127,6 +131,7 @@ impl Part {
     pub fn count(&self) -> u32
         ensures value { result ≡ length self.now.vertices }
         ensures ascend { AllPairs (λ v w. v < w) self.now.vertices }
+        ensures portion { IsPortion self.now }
     {
         self.vertices.len() as u32
     }
@@ -160,6 +165,24 @@ impl Part {
         ensures apart { All (λ g. All (λ v. v ≢ g.vertex.0) self.now.vertices) result.now }
     {
         &self.ghosts
+    }
+
+    /// Beside each arc, place after place, the slot of the ghost that it leads to: its index in `ghosts`. `None` where it
+    /// leads to no ghost. `beside` gives the slots of one place. Takes time linear in the graph's vertices and the part's arcs;
+    /// 8 bytes an arc, and meanwhile 8 bytes a vertex. `OutOfMemory` comes only where memory is wanting.
+    pub fn slots(&self, alloc: Global) -> Result<Vec<Option<u32>>, OutOfMemory>
+        ensures { IfOk result (λ slots. AreSlotsOf self.now.ghosts self.now.arcs slots.items) }
+    {
+        slots_of(alloc, self.n, &self.ghosts, &self.arcs).map_err(|_| OutOfMemory)
+    }
+
+    /// Of items that lie beside the arcs, one for each in their order, those beside the arcs of the place `i`.
+    pub fn beside<'a, T>(&self, i: u32, items: &'a [T]) -> &'a [T]
+        requires place { i < length self.now.vertices }
+        requires each { length items.now ≡ length self.now.arcs }
+        ensures { result.now ≡ row_of self.now.bounds items.now i }
+    {
+        row_at(&self.bounds, items, i + 1)
     }
 
     /// The ranks that hold the own vertex at the place `i` as a ghost, ascending.

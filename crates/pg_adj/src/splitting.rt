@@ -27,16 +27,8 @@ pub fn split<D: Distribution>(
     graph: &EdgeList,
     dist: &D,
 ) -> Result<Vec<Part>, OutOfMemory>
-    requires { graph.now.n ≡ D.n dist.now }
-    ensures { IfOk result (λ parts. Divided (record {
-      n = D.n dist.now;
-      ranks = D.ranks dist.now;
-      owner = D.owner dist.now;
-      local = D.local dist.now;
-      count = D.count dist.now;
-      global = D.global dist.now;
-    })
-        graph.now parts.items) }
+    requires { graph.now.n ≡ (D.sharing dist.now).n }
+    ensures { IfOk result (λ parts. Divided (D.sharing dist.now) graph.now parts.items) }
 {
     parts_of(alloc, graph, dist).map_err(|_| OutOfMemory)
 }
@@ -46,16 +38,8 @@ fn parts_of<D: Distribution>(
     graph: &EdgeList,
     dist: &D,
 ) -> Result<Vec<Part>, AllocError>
-    requires { graph.now.n ≡ D.n dist.now }
-    ensures { IfOk result (λ parts. Divided (record {
-      n = D.n dist.now;
-      ranks = D.ranks dist.now;
-      owner = D.owner dist.now;
-      local = D.local dist.now;
-      count = D.count dist.now;
-      global = D.global dist.now;
-    })
-        graph.now parts.items) }
+    requires { graph.now.n ≡ (D.sharing dist.now).n }
+    ensures { IfOk result (λ parts. Divided (D.sharing dist.now) graph.now parts.items) }
 {
     let rows = rows_of(alloc, graph, dist)?;
     let sets = holding_ranks(alloc, graph, dist, &rows)?;
@@ -72,32 +56,16 @@ fn joined<D: Distribution>(
     shares: Vec<Share>,
     holders: Vec<HolderRows>,
 ) -> Result<Vec<Part>, AllocError>
-    requires n { graph.now.n ≡ D.n dist.now }
-    requires count { length shares.items ≡ D.ranks dist.now }
-    requires few { D.ranks dist.now ≤ MAX_RANKS }
-    requires share { (r : ℕ) (d : Share) → r < D.ranks dist.now
-        → IsShareOf (record {
-          n = D.n dist.now;
-          ranks = D.ranks dist.now;
-          owner = D.owner dist.now;
-          local = D.local dist.now;
-          count = D.count dist.now;
-          global = D.global dist.now;
-        })
-        graph.now.edges r (slice_index_or shares.items r d) }
-    requires each { length holders.items ≡ D.ranks dist.now }
-    requires holders { (r : ℕ) (d : HolderRows) → r < D.ranks dist.now
-        → AreRows (λ i. items_of (holdings 0 (ghost_lists shares.items)) (D.global dist.now r i)) (D.count dist.now r)
+    requires n { graph.now.n ≡ (D.sharing dist.now).n }
+    requires count { length shares.items ≡ (D.sharing dist.now).ranks }
+    requires few { (D.sharing dist.now).ranks ≤ MAX_RANKS }
+    requires share { (r : ℕ) (d : Share) → r < (D.sharing dist.now).ranks
+        → IsShareOf (D.sharing dist.now) graph.now.edges r (slice_index_or shares.items r d) }
+    requires each { length holders.items ≡ (D.sharing dist.now).ranks }
+    requires holders { (r : ℕ) (d : HolderRows) → r < (D.sharing dist.now).ranks
+        → AreRows (λ i. items_of (holdings 0 (ghost_lists shares.items)) ((D.sharing dist.now).global r i)) ((D.sharing dist.now).count r)
         (slice_index_or holders.items r d).bounds.items (slice_index_or holders.items r d).holders.items }
-    ensures { IfOk result (λ parts. Divided (record {
-      n = D.n dist.now;
-      ranks = D.ranks dist.now;
-      owner = D.owner dist.now;
-      local = D.local dist.now;
-      count = D.count dist.now;
-      global = D.global dist.now;
-    })
-        graph.now parts.items) }
+    ensures { IfOk result (λ parts. Divided (D.sharing dist.now) graph.now parts.items) }
 {
     let mut parts = Vec::with_capacity(alloc, shares.len())?;
     for (share, rows) in shares.into_iter().zip(holders) {

@@ -148,6 +148,19 @@ fn agrees_at(
         let holders = plain.holders(alloc, part.ranks(), v)?;
         assert_eq!(rt; part.holders(i), holders.as_slice());
     }
+    slots_agree(rt, alloc, part)
+}
+
+// Beside each arc stands the place of its end among the ghosts.
+fn slots_agree(rt: &impl Abort, alloc: Global, part: &Part) -> Result<(), Fail> {
+    let slots = part.slots(alloc).map_err(|_| "no memory")?;
+    for i in 0..part.count() {
+        let beside = part.beside(i, &slots);
+        for (arc, slot) in part.arcs(i).iter().zip(beside) {
+            let place = part.ghosts().iter().position(|held| held.vertex == arc.to);
+            assert_eq!(rt; slot.map(|found| found as usize), place);
+        }
+    }
     Ok(())
 }
 

@@ -1,5 +1,6 @@
 pub mod Members
 pub mod WalkLemmas
+pub mod BestLemmas
 pub mod ArcLemmas
 pub mod KeyLemmas
 mod ExampleWalks

@@ -2,6 +2,7 @@
 use Rattle.std.specs.Prelude.{ℕ, List, [], ◌∷◌, if◌then◌else◌, ◌==◌}
 use Rattle.pg_base.specs.declared.edges.Edge.{Edge}
 use Rattle.pg_base.specs.Graph.{Graph, Arc}
+use Rattle.pg_base.specs.Best.{Value}
 
 abbrev pub edge : ℕ → ℕ → ℕ → Edge
 edge first second weight = record { u = first; v = second; w = weight }
@@ -30,3 +31,10 @@ middle_one v = if v == 2 then 1 else 0
 
 abbrev pub middle_zero : ℕ → ℕ
 middle_zero v = if v == 2 then 0 else 1
+
+-- 2 for vertex 2, which has no neighbour of colour 1.
+abbrev pub middle_two : ℕ → ℕ
+middle_two v = if v == 2 then 2 else 0
+
+abbrev pub value : ℕ → ℕ → ℕ → Value
+value class amount hops = record { class = class; amount = amount; hops = hops }

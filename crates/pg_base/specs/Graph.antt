@@ -9,24 +9,24 @@ pub record Graph : Type 0 where
   pub n : ℕ
   pub edges : List Edge
 
--- The lesser end stands first, both ends are vertices, and the weight is at least 1.
+-- The lesser end stands first, and both ends are vertices.
 pub record IsEdge (n : ℕ) (e : Edge) : Type 0 where
   pub first : 1 ≤ e.u
   pub ascends : e.u < e.v
   pub last : e.v ≤ n
-  pub weight : 1 ≤ e.w
 
 -- (d.u, d.v) comes before (e.u, e.v) in the order of pairs.
 pub record Precedes (d e : Edge) : Type 0 where
   pub first : d.u ≤ e.u
   pub second : d.u ≡ e.u → d.v < e.v
 
--- The edges ascend, so that each pair stands once, and the limits hold.
+-- The edges ascend, so that each pair stands once, the limits hold, and each edge weighs at least 1.
 pub record IsGraph (g : Graph) : Type 0 where
   pub vertices : g.n ≤ MAX_VERTICES
   pub size : length g.edges ≤ MAX_EDGES
   pub within : All (IsEdge g.n) g.edges
   pub ascending : AllPairs Precedes g.edges
+  pub positive : All (λ e. 1 ≤ e.w) g.edges
 
 -- One direction of an edge. A directed graph is a list of these.
 pub record Arc : Type 0 where

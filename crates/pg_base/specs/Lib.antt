@@ -1,9 +1,12 @@
 pub mod Graph
 pub mod Walk
+pub mod Distances
+pub mod Best
 pub mod Forest
 pub mod Colouring
 pub mod Outcome
 pub mod WalkLaws
+pub mod BestLaws
 pub mod KeyLaws
 pub mod Examples
 pub mod Keyed

@@ -1,7 +1,7 @@
 -- Walks, the least of them, and what they reach.
 -- Source: Cormen, Leiserson, Rivest and Stein, Introduction to Algorithms, appendix B.4 (walks), 22.2 and
 -- 24 (least numbers of arcs, least weights).
-use Rattle.std.specs.Prelude.{◌≡◌, ℕ, ◌≤◌, Option, Some, None, List, [], ◌∷◌, length, sum_by, Contains}
+use Rattle.std.specs.Prelude.{◌≡◌, ◌≢◌, ℕ, ◌≤◌, Option, Some, None, List, [], ◌∷◌, length, map, sum_by, AllPairs, Contains}
 use Rattle.pg_base.specs.Graph.{Arc}
 
 -- Arcs of the list, end to end, from s to v. The empty walk joins each vertex to itself.
@@ -12,6 +12,14 @@ IsWalk arcs s (a ∷ walk) v = Contains arcs a × (a.from ≡ s) × IsWalk arcs 
 -- Some walk leads from s to v.
 abbrev pub Joins : List Arc → ℕ → ℕ → Type 0
 Joins arcs s v = (walk : List Arc) × IsWalk arcs s walk v
+
+-- The vertices that a walk from s meets, in order.
+abbrev pub vertices_of : ℕ → List Arc → List ℕ
+vertices_of s walk = s ∷ map (λ a. a.to) walk
+
+-- The walk meets no vertex twice.
+abbrev pub IsSimple : ℕ → List Arc → Type 0
+IsSimple s walk = AllPairs (λ x y. x ≢ y) (vertices_of s walk)
 
 abbrev pub weight_of : List Arc → ℕ
 weight_of walk = sum_by (λ a. a.weight) walk

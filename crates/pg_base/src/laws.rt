@@ -1,23 +1,27 @@
 //! What the definitions of this crate's `specs/` say of two small graphs, and what follows from them in
 //! general. No call does anything: each is proved to meet the laws that its clauses state.
 
-ghost use Rattle.std.specs.Prelude.{◌≡◌, ◌+◌, Some, None, [], ◌∷◌, true, false, length};
+ghost use Rattle.std.specs.Prelude.{◌≡◌, ◌+◌, ◌^◌, Some, None, [], ◌∷◌, true, false, length};
 ghost use Rattle.pg_base.specs.Graph.{IsGraph, arcs_of, arcs_from};
-ghost use Rattle.pg_base.specs.Walk.{IsWalk, Joins, weight_of, LeastArcs, LeastWeight, IsLowest};
-ghost use Rattle.pg_base.specs.Forest.{key_lt, lesser_edges, InForest, Spans, total_weight};
-ghost use Rattle.pg_base.specs.Colouring.{degree, IsProper};
-ghost use Rattle.pg_base.specs.Examples.{edge, arc, graph, path_edges, triangle_edges, triangle_tree, middle_one, middle_zero};
+ghost use Rattle.pg_base.specs.Walk.{IsWalk, Joins, IsSimple, weight_of, LeastArcs, LeastWeight, IsLowest};
+ghost use Rattle.pg_base.specs.Distances.{AreLeastArcs};
+ghost use Rattle.pg_base.specs.Best.{Best, weight_from, hops_from, roots};
+ghost use Rattle.pg_base.specs.BestLaws.{BestIsOne, HopsAreLeast, WeightsAreLeast, RootsAreLowest};
+ghost use Rattle.pg_base.specs.Forest.{key_lt, lesser_edges, InForest, IsForest, Spans, total_weight};
+ghost use Rattle.pg_base.specs.Colouring.{degree, IsProper, AreProper, IsFirstFit};
+ghost use Rattle.pg_base.specs.Examples.{edge, arc, graph, path_edges, triangle_edges, triangle_tree, middle_one, middle_zero, middle_two, value};
 ghost use Rattle.pg_base.specs.Outcome.{StatusesDiffer};
 ghost use Rattle.pg_base.specs.KeyLaws.{KeysAreStrict, KeysCarryOver, KeysTellApart, NumbersOrderKeys};
 ghost use Rattle.pg_base.specs.WalkLaws.{ArcsAreEdges, ArcsFromLeave, WalksStayWithin, WalksCompose, WalksRefine, WalksTurnRound, LeastIsOne, LowestIsOne};
 
-use crate::{MAX_EDGES, MAX_RANKS, MAX_VERTICES};
+use crate::{MAX_EDGES, MAX_RANKS, MAX_VERTICES, MAX_WEIGHT};
 
-/// The limits are 2^20 vertices, 2^23 edges and 32 ranks.
+/// The limits are 2^20 vertices, 2^23 edges, 32 ranks, and the greatest number of 32 bits as a weight.
 pub fn limits()
     ensures vertices { MAX_VERTICES ≡ 1048576 }
     ensures edges { MAX_EDGES ≡ 8388608 }
     ensures ranks { MAX_RANKS ≡ 32 }
+    ensures weight { MAX_WEIGHT + 1 ≡ 2 ^ 32 }
 {}
 
 /// No two outcomes end with the same exit status.
@@ -62,6 +66,8 @@ pub fn walks()
     ensures parted { IsWalk (arcs_of path_edges) 1 (arc 1 2 5 ∷ arc 3 2 2 ∷ []) 2 → ⊥ }
     ensures other_arc { IsWalk (arcs_of path_edges) 1 (arc 1 3 2 ∷ []) 3 → ⊥ }
     ensures apart { Joins (arcs_of path_edges) 1 4 → ⊥ }
+    ensures simple { IsSimple 1 (arc 1 2 5 ∷ arc 2 3 2 ∷ []) }
+    ensures returns { IsSimple 1 (arc 1 2 5 ∷ arc 2 1 5 ∷ []) → ⊥ }
 {}
 
 /// The least numbers of arcs from vertex 1.
@@ -73,6 +79,12 @@ pub fn least_arcs()
     ensures triangle_1 { LeastArcs (arcs_of triangle_edges) 1 1 (Some 0) }
     ensures triangle_2 { LeastArcs (arcs_of triangle_edges) 1 2 (Some 1) }
     ensures triangle_3 { LeastArcs (arcs_of triangle_edges) 1 3 (Some 1) }
+{}
+
+/// The least numbers of arcs from vertex 1 to all vertices of the path, as a list.
+pub fn distances()
+    ensures path { AreLeastArcs (graph 4 path_edges) 1 (Some 0 ∷ Some 1 ∷ Some 2 ∷ None ∷ []) }
+    ensures past { AreLeastArcs (graph 4 path_edges) 1 (Some 0 ∷ Some 1 ∷ Some 2 ∷ []) → ⊥ }
 {}
 
 /// The least weights from vertex 1.
@@ -93,6 +105,15 @@ pub fn lowest_vertices()
     ensures not_itself { IsLowest (arcs_of path_edges) 3 2 → ⊥ }
 {}
 
+/// The best values at vertices of the path and the triangle: by weight, by hops, and by roots.
+pub fn best_values()
+    ensures by_weight { Best (weight_from 1) (arcs_of path_edges) 3 (Some (value 0 7 2)) }
+    ensures by_hops { Best (hops_from 1) (arcs_of triangle_edges) 3 (Some (value 0 1 1)) }
+    ensures away { Best (weight_from 1) (arcs_of path_edges) 4 None }
+    ensures by_root { Best roots (arcs_of path_edges) 4 (Some (value 4 0 0)) }
+    ensures longer { Best (hops_from 1) (arcs_of triangle_edges) 3 (Some (value 0 2 2)) → ⊥ }
+{}
+
 /// Keys go by weight, and where weights are equal by the ends.
 pub fn keys()
     ensures by_weight { key_lt (edge 2 3 2) (edge 1 2 5) ≡ true }
@@ -111,6 +132,8 @@ pub fn forests()
     ensures triangle_second { InForest triangle_edges (edge 1 3 4) }
     ensures triangle_third { InForest triangle_edges (edge 2 3 4) → ⊥ }
     ensures only_edges { InForest path_edges (edge 3 4 1) → ⊥ }
+    ensures whole { IsForest triangle_edges triangle_tree }
+    ensures all_three { IsForest triangle_edges triangle_edges → ⊥ }
 {}
 
 /// What the triangle's forest spans and weighs, and lists that span nothing.
@@ -129,6 +152,10 @@ pub fn colourings()
     ensures proper { IsProper (graph 4 path_edges) middle_one }
     ensures one_colour { IsProper (graph 4 path_edges) (λ v. 0) → ⊥ }
     ensures past_degree { IsProper (graph 4 path_edges) middle_zero → ⊥ }
+    ensures listed { AreProper (graph 4 path_edges) (0 ∷ 1 ∷ 0 ∷ 0 ∷ []) }
+    ensures lacking { AreProper (graph 4 path_edges) (0 ∷ 1 ∷ 0 ∷ []) → ⊥ }
+    ensures first_fit { IsFirstFit (graph 4 path_edges) middle_one }
+    ensures skips_one { IsFirstFit (graph 4 path_edges) middle_two → ⊥ }
 {}
 
 /// The arcs of edges are the edges' directions, and the walks of a graph stay among its vertices.
@@ -149,6 +176,15 @@ pub fn walk_laws()
 pub fn answer_laws()
     ensures least { LeastIsOne }
     ensures lowest { LowestIsOne }
+{}
+
+/// The best value is one. By hops, weights and roots its amount or class is the least number of arcs, the least weight and
+/// the lowest vertex.
+pub fn best_laws()
+    ensures one { BestIsOne }
+    ensures hops { HopsAreLeast }
+    ensures weights { WeightsAreLeast }
+    ensures roots { RootsAreLowest }
 {}
 
 /// Keys are a strict order that tells edges apart. In a graph w * 2^23 + index orders edges alike.

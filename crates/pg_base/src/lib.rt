@@ -21,6 +21,9 @@ pub const MAX_VERTICES: u32 = 1_048_576;
 /// The greatest number of edges of a graph.
 pub const MAX_EDGES: u32 = 8_388_608;
 
+/// The greatest weight of an edge.
+pub const MAX_WEIGHT: u32 = u32::MAX;
+
 /// The greatest number of ranks of a group.
 pub const MAX_RANKS: u32 = 32;
 

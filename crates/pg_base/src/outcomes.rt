@@ -1,7 +1,7 @@
 ghost use Rattle.std.specs.Prelude.{◌≡◌};
 ghost use Rattle.pg_base.specs.Outcome.{status_number};
 
-/// An allocation failed.
+/// Want of memory. No clause says when it comes.
 #[derive(Clone, Copy, Debug, PartialEq, Eq)]
 pub struct OutOfMemory;
 
@@ -20,7 +20,7 @@ pub enum Status {
     ReadFault,
     /// A write failed.
     WriteFault,
-    /// An allocation failed.
+    /// Want of memory. No clause says when it comes.
     NoMemory,
     /// The source is no vertex of the graph.
     BadSource,

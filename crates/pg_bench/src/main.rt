@@ -108,7 +108,7 @@ fn divide<D: Distribution>(
     dist: &D,
     reading: Duration,
 ) -> io::Result<()>
-    requires { graph.now.n ≡ D.n dist.now }
+    requires { graph.now.n ≡ (D.sharing dist.now).n }
 {
     let start = Instant::now(rt)?;
     let parts = split(rt.alloc(), graph, dist).map_err(|_| ErrorKind::OutOfMemory)?;

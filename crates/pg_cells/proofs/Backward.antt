@@ -9,16 +9,16 @@ use Rattle.pg_adj.specs.Portions.{Portion}
 use Rattle.pg_cells.specs.declared.bodies.CellBody.{CellBody}
 use Rattle.pg_cells.specs.declared.bodies.CellBody.TheVariants.{Refresh}
 use Rattle.pg_cells.specs.declared.flags.Flags.{Flags}
-use Rattle.pg_cells.specs.declared.refreshes.Due.{Due}
-use Rattle.pg_cells.specs.States.{CellState, new_cells, dues}
+use Rattle.pg_cells.specs.declared.refreshes.PendingRefresh.{PendingRefresh}
+use Rattle.pg_cells.specs.States.{CellState, new_cells, refreshes_of}
 use Rattle.pg_cells.specs.Steps.{Event}
 use Rattle.pg_cells.specs.Runs.{events_of, handled_from, sent_to}
-use Rattle.pg_cells.specs.Mirrored.{AreMirrored, IsKept, IsHeld}
+use Rattle.pg_cells.specs.RefreshesMirrored.{AreRefreshesMirrored, IsPendingFrom, IsPendingTo}
 use Rattle.pg_cells.specs.Freshness.{events_at, HaveSynchronized, AreFresh, IsFresh}
 use Rattle.pg_cells.proofs.BackwardLists.{some_at, replicate_at}
 use Rattle.pg_cells.proofs.BackwardSteps.{IsOver, new_over, over_run}
 use Rattle.pg_cells.proofs.BackwardRounds.{Begins, LastRound, Refreshes, begins, last_round}
-use Rattle.pg_cells.proofs.BackwardBodies.{EachHandled, each_handled, IsRefresh, IsRefreshOf, Carries, only_refreshes, own_stays, values_sent, due_sent, ghost_takes}
+use Rattle.pg_cells.proofs.BackwardBodies.{EachHandled, each_handled, IsRefresh, IsRefreshOf, Carries, only_refreshes, own_stays, values_sent, pending_sent, ghost_takes}
 
 module _ (join : ℕ → ℕ → ℕ) (start : ℕ → ℕ) where
   -- What one rank does in the last round, of which these are the events.
@@ -28,7 +28,7 @@ module _ (join : ℕ → ℕ → ℕ) (start : ℕ → ℕ) where
     run : Refreshes join start s events u
     part_is : s.part ≡ part
     ghosts_each : length s.ghosts ≡ length part.ghosts
-    all_unsent : s.unsent ≡ replicate (length (dues part)) true
+    all_unsent : s.unsent ≡ replicate (length (refreshes_of part)) true
     none_left : All (λ unsent. unsent ≡ false) u.unsent
     own_after : t.own ≡ u.own
     ghosts_after : t.ghosts ≡ u.ghosts
@@ -46,7 +46,7 @@ module _ (join : ℕ → ℕ → ℕ) (start : ℕ → ℕ) where
     ghosts_after = ap (λ c. c.ghosts) l.after;
   }
 
-  module _ (flags : Flags) (parts : List Portion) (runs : List (List Event)) (cells : List CellState) (m : AreMirrored parts) (h : HaveSynchronized join start flags parts runs cells) (backward : flags.backward ≡ true) where
+  module _ (flags : Flags) (parts : List Portion) (runs : List (List Event)) (cells : List CellState) (m : AreRefreshesMirrored parts) (h : HaveSynchronized join start flags parts runs cells) (backward : flags.backward ≡ true) where
     -- the events of a rank in the last round
     abbrev last_events : ℕ → List Event
     last_events r = events_of (suc h.closing) (events_at runs r)
@@ -104,7 +104,7 @@ module _ (join : ℕ → ℕ → ℕ) (start : ℕ → ℕ) where
       -- a refresh of the slot has the value of the owner's cell
       carried : (from : ℕ) (sender : Portion) (t : CellState) (body : CellBody) → slice_get parts from ≡ Some sender → slice_get cells from ≡ Some t → IsRefreshOf sender t.own r body → Carries slot (slice_index owner.own g.place) body
       carried from sender t body at_sender at_cell is y e =
-          let held : IsHeld parts from is.1 = m.held from is.0 sender is.1 at_sender is.2 in
+          let held : IsPendingTo parts from is.1 = m.held from is.0 sender is.1 at_sender is.2 in
           let both : Refresh is.1.holder.slot (slice_index t.own is.1.place) ≡ Refresh slot y = sym is.4 ∙ e in
           let slot_is : is.1.holder.slot ≡ slot = cc in
           let y_is : y ≡ slice_index t.own is.1.place = cc in
@@ -124,12 +124,12 @@ module _ (join : ℕ → ℕ → ℕ) (start : ℕ → ℕ) where
           All-weaker (IsRefreshOf sender t.own r) (Carries slot (slice_index owner.own g.place)) (λ body is. carried from sender t body at_sender at_cell is) (sent_to r (last_events from)) (values_from from r sender t at_sender at_cell)))
 
       -- the owner's cell was sent to the slot
-      one_sent : IsKept parts r slot g → Contains (sent_to r (last_events g.home.0)) (Refresh slot (slice_index owner.own g.place))
+      one_sent : IsPendingFrom parts r slot g → Contains (sent_to r (last_events g.home.0)) (Refresh slot (slice_index owner.own g.place))
       one_sent k =
           let l = last_of g.home.0 k.home owner k.there at_owner in
-          let due : Due = record { place = g.place; holder = record { rank = record { 0 = r }; slot = slot } } in
-          due_sent join start k.home owner.own k.entry due k.due l.u l.none_left (last_events g.home.0) l.s l.run (refreshes_handled g.home.0 (slice_get_within parts g.home.0 k.home k.there))
-          l.part_is (same_own g.home.0 k.home owner k.there at_owner) (ap (λ b. slice_get b k.entry) l.all_unsent ∙ replicate_at (length (dues k.home)) k.entry true (slice_get_within (dues k.home) k.entry due k.due))
+          let pending : PendingRefresh = record { place = g.place; holder = record { rank = record { 0 = r }; slot = slot } } in
+          pending_sent join start k.home owner.own k.entry pending k.pending l.u l.none_left (last_events g.home.0) l.s l.run (refreshes_handled g.home.0 (slice_get_within parts g.home.0 k.home k.there))
+          l.part_is (same_own g.home.0 k.home owner k.there at_owner) (ap (λ b. slice_get b k.entry) l.all_unsent ∙ replicate_at (length (refreshes_of k.home)) k.entry true (slice_get_within (refreshes_of k.home) k.entry pending k.pending))
 
       takes : (t : CellState) → slice_get cells r ≡ Some t → slice_get t.ghosts slot ≡ Some (Some (slice_index owner.own g.place))
       takes t at_cell =

@@ -6,10 +6,10 @@ use Rattle.std.proofs.lemmas.List.{length-set}
 use Rattle.std.proofs.lemmas.List.Elements.{All-nil}
 use Rattle.std.proofs.lemmas.Option.{slice_get_within}
 use Rattle.pg_adj.specs.Portions.{Portion}
-use Rattle.pg_cells.specs.declared.refreshes.Due.{Due}
+use Rattle.pg_cells.specs.declared.refreshes.PendingRefresh.{PendingRefresh}
 use Rattle.pg_cells.specs.declared.bodies.CellBody.{CellBody}
 use Rattle.pg_cells.specs.declared.bodies.CellBody.TheVariants.{Put as PutBody, Refresh}
-use Rattle.pg_cells.specs.States.{CellState, dues}
+use Rattle.pg_cells.specs.States.{CellState, refreshes_of}
 use Rattle.pg_cells.specs.Steps.{Event, SendsRefresh, after_body}
 use Rattle.pg_cells.specs.Steps.Event.{put, handled, sent, closed, round_ended}
 use Rattle.pg_cells.specs.Runs.{handled_from, sent_to}
@@ -41,7 +41,7 @@ IsRefresh body = (slot : ℕ) × (x : ℕ) × (body ≡ Refresh slot x)
 
 -- the value of an own cell, on its way to a holder
 abbrev pub IsRefreshOf : Portion → List ℕ → ℕ → CellBody → Type 0
-IsRefreshOf part own to body = (entry : ℕ) × (due : Due) × (slice_get (dues part) entry ≡ Some due) × (due.holder.rank.0 ≡ to) × (body ≡ Refresh due.holder.slot (slice_index own due.place))
+IsRefreshOf part own to body = (entry : ℕ) × (pending : PendingRefresh) × (slice_get (refreshes_of part) entry ≡ Some pending) × (pending.holder.rank.0 ≡ to) × (body ≡ Refresh pending.holder.slot (slice_index own pending.place))
 
 -- a refresh of this slot has this value
 abbrev pub Carries : ℕ → ℕ → CellBody → Type 0
@@ -60,7 +60,7 @@ module _ (join : ℕ → ℕ → ℕ) (start : ℕ → ℕ) where
   only_refreshes to u (handled from body ∷ events) s run = only_refreshes to u events (after_body join start body s) run
   only_refreshes to u (sent rank body ∷ events) s run =
       let step = run.1 in
-      all_if IsRefresh (rank == to) body (sent_to to events) (λ h. (step.due.holder.slot, slice_index s.own step.due.place, step.body_is)) (only_refreshes to u events run.0 run.2)
+      all_if IsRefresh (rank == to) body (sent_to to events) (λ h. (step.pending.holder.slot, slice_index s.own step.pending.place, step.body_is)) (only_refreshes to u events run.0 run.2)
 
   -- where all that is handled are refreshes, the own cells stay as they are
   pub own_stays : (u : CellState) (events : List Event) (s : CellState) → Refreshes join start s events u → EachHandled (λ from body. IsRefresh body) events → u.own ≡ s.own
@@ -85,38 +85,38 @@ module _ (join : ℕ → ℕ → ℕ) (start : ℕ → ℕ) where
   values_sent part own to u (sent rank body ∷ events) s run each part_is own_is =
       let step = run.1 in
       all_if (IsRefreshOf part own to) (rank == to) body (sent_to to events)
-      (λ h. (step.entry, step.due, ap (λ p. slice_get (dues p) step.entry) (sym part_is) ∙ step.there, sym step.rank ∙ eqb-true rank to h, step.body_is ∙ ap (λ l. Refresh step.due.holder.slot (slice_index l step.due.place)) own_is))
+      (λ h. (step.entry, step.pending, ap (λ p. slice_get (refreshes_of p) step.entry) (sym part_is) ∙ step.there, sym step.rank ∙ eqb-true rank to h, step.body_is ∙ ap (λ l. Refresh step.pending.holder.slot (slice_index l step.pending.place)) own_is))
       (values_sent part own to u events run.0 run.2 each (ap (λ c. c.part) step.after ∙ part_is) (ap (λ c. c.own) step.after ∙ own_is))
 
   -- an own cell that is yet to be sent to a holder, and is not in the end, was sent
-  pub due_sent : (part : Portion) (own : List ℕ) (entry : ℕ) (due : Due) → slice_get (dues part) entry ≡ Some due → (u : CellState) → All (λ unsent. unsent ≡ false) u.unsent
+  pub pending_sent : (part : Portion) (own : List ℕ) (entry : ℕ) (pending : PendingRefresh) → slice_get (refreshes_of part) entry ≡ Some pending → (u : CellState) → All (λ unsent. unsent ≡ false) u.unsent
       → (events : List Event) (s : CellState) → Refreshes join start s events u → EachHandled (λ from body. IsRefresh body) events
       → s.part ≡ part → s.own ≡ own → slice_get s.unsent entry ≡ Some true
-      → Contains (sent_to due.holder.rank.0 events) (Refresh due.holder.slot (slice_index own due.place))
-  due_sent part own entry due there u none [] s run each part_is own_is unsent =
+      → Contains (sent_to pending.holder.rank.0 events) (Refresh pending.holder.slot (slice_index own pending.place))
+  pending_sent part own entry pending there u none [] s run each part_is own_is unsent =
       let all : true ≡ false = all_at (λ b. b ≡ false) s.unsent entry true (subst (λ (c : CellState). All (λ b. b ≡ false) c.unsent) (sym run) none) unsent in absurd (cc)
-  due_sent part own entry due there u none (put v x ∷ events) s run each part_is own_is unsent = absurd run
-  due_sent part own entry due there u none (closed ∷ events) s run each part_is own_is unsent = absurd run
-  due_sent part own entry due there u none (round_ended ∷ events) s run each part_is own_is unsent = absurd run
-  due_sent part own entry due there u none (handled from (PutBody place value) ∷ events) s run each part_is own_is unsent = absurd (put_is_none place value each.0)
-  due_sent part own entry due there u none (handled from (Refresh slot value) ∷ events) s run each part_is own_is unsent =
-      due_sent part own entry due there u none events (after_body join start (Refresh slot value) s) run each.1 part_is own_is unsent
-  due_sent part own entry due there u none (sent rank body ∷ events) s run each part_is own_is unsent =
+  pending_sent part own entry pending there u none (put v x ∷ events) s run each part_is own_is unsent = absurd run
+  pending_sent part own entry pending there u none (closed ∷ events) s run each part_is own_is unsent = absurd run
+  pending_sent part own entry pending there u none (round_ended ∷ events) s run each part_is own_is unsent = absurd run
+  pending_sent part own entry pending there u none (handled from (PutBody place value) ∷ events) s run each part_is own_is unsent = absurd (put_is_none place value each.0)
+  pending_sent part own entry pending there u none (handled from (Refresh slot value) ∷ events) s run each part_is own_is unsent =
+      pending_sent part own entry pending there u none events (after_body join start (Refresh slot value) s) run each.1 part_is own_is unsent
+  pending_sent part own entry pending there u none (sent rank body ∷ events) s run each part_is own_is unsent =
       let step = run.1 in
       ⊎_elim
-      (λ (same : entry ≡ step.entry). this_one part own entry due there s run.0 rank body (sent_to due.holder.rank.0 events) step part_is own_is same)
-      (λ (other : entry ≢ step.entry). contains_if (rank == due.holder.rank.0) body (sent_to due.holder.rank.0 events) (Refresh due.holder.slot (slice_index own due.place))
-      (due_sent part own entry due there u none events run.0 run.2 each (ap (λ c. c.part) step.after ∙ part_is) (ap (λ c. c.own) step.after ∙ own_is)
+      (λ (same : entry ≡ step.entry). this_one part own entry pending there s run.0 rank body (sent_to pending.holder.rank.0 events) step part_is own_is same)
+      (λ (other : entry ≢ step.entry). contains_if (rank == pending.holder.rank.0) body (sent_to pending.holder.rank.0 events) (Refresh pending.holder.slot (slice_index own pending.place))
+      (pending_sent part own entry pending there u none events run.0 run.2 each (ap (λ c. c.part) step.after ∙ part_is) (ap (λ c. c.own) step.after ∙ own_is)
       (ap (λ c. slice_get c.unsent entry) step.after ∙ set_else s.unsent step.entry entry false other ∙ unsent)))
       (cases_eq entry step.entry)
     where
-      this_one : (part : Portion) (own : List ℕ) (entry : ℕ) (due : Due) → slice_get (dues part) entry ≡ Some due → (s t : CellState) (rank : ℕ) (body : CellBody) (bodies : List CellBody) (step : SendsRefresh s rank body t)
-          → s.part ≡ part → s.own ≡ own → entry ≡ step.entry → Contains (if rank == due.holder.rank.0 then body ∷ bodies else bodies) (Refresh due.holder.slot (slice_index own due.place))
-      this_one part own entry due there s t rank body bodies step part_is own_is same =
-          let both : Some step.due ≡ Some due = sym step.there ∙ ap (λ p. slice_get (dues p) step.entry) part_is ∙ ap (slice_get (dues part)) (sym same) ∙ there in
-          let is : step.due ≡ due = cc in
-          contains_here (rank == due.holder.rank.0) body bodies (Refresh due.holder.slot (slice_index own due.place)) (eq-eqb rank due.holder.rank.0 (step.rank ∙ ap (λ d. d.holder.rank.0) is))
-          (step.body_is ∙ ap (λ l. Refresh step.due.holder.slot (slice_index l step.due.place)) own_is ∙ ap (λ d. Refresh d.holder.slot (slice_index own d.place)) is)
+      this_one : (part : Portion) (own : List ℕ) (entry : ℕ) (pending : PendingRefresh) → slice_get (refreshes_of part) entry ≡ Some pending → (s t : CellState) (rank : ℕ) (body : CellBody) (bodies : List CellBody) (step : SendsRefresh s rank body t)
+          → s.part ≡ part → s.own ≡ own → entry ≡ step.entry → Contains (if rank == pending.holder.rank.0 then body ∷ bodies else bodies) (Refresh pending.holder.slot (slice_index own pending.place))
+      this_one part own entry pending there s t rank body bodies step part_is own_is same =
+          let both : Some step.pending ≡ Some pending = sym step.there ∙ ap (λ p. slice_get (refreshes_of p) step.entry) part_is ∙ ap (slice_get (refreshes_of part)) (sym same) ∙ there in
+          let is : step.pending ≡ pending = cc in
+          contains_here (rank == pending.holder.rank.0) body bodies (Refresh pending.holder.slot (slice_index own pending.place)) (eq-eqb rank pending.holder.rank.0 (step.rank ∙ ap (λ d. d.holder.rank.0) is))
+          (step.body_is ∙ ap (λ l. Refresh step.pending.holder.slot (slice_index l step.pending.place)) own_is ∙ ap (λ d. Refresh d.holder.slot (slice_index own d.place)) is)
 
   -- a ghost after one body
   refreshed : (slot x : ℕ) (body : CellBody) (s : CellState) → body ≡ Refresh slot x → slot < length s.ghosts → slice_get (after_body join start body s).ghosts slot ≡ Some (Some x)

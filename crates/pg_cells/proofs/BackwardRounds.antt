@@ -6,7 +6,7 @@ use Rattle.pg_cells.specs.declared.bodies.CellBody.{CellBody}
 use Rattle.pg_cells.specs.declared.bodies.CellBody.TheVariants.{Put as PutBody, Refresh}
 use Rattle.pg_cells.specs.declared.flags.Flags.{Flags}
 use Rattle.pg_cells.specs.declared.phases.Phase.TheVariants.{Filling, Closing, Refreshing}
-use Rattle.pg_cells.specs.States.{CellState, NothingLeft, dues}
+use Rattle.pg_cells.specs.States.{CellState, NothingLeft, refreshes_of}
 use Rattle.pg_cells.specs.Steps.{Event, Sends, SendsRefresh, after_body, after_round}
 use Rattle.pg_cells.specs.Steps.Event.{put, handled, sent, closed, round_ended}
 use Rattle.pg_cells.specs.Runs.{Run, rounds, ends_a_round, events_of}
@@ -46,14 +46,14 @@ module _ (join : ℕ → ℕ → ℕ) (start : ℕ → ℕ) where
     pub same : events_of 0 rest ≡ events
     pub over : IsOver part flags s
     pub quiet : IsQuiet s
-    pub all_unsent : s.unsent ≡ replicate (length (dues part)) true
+    pub all_unsent : s.unsent ≡ replicate (length (refreshes_of part)) true
 
   module _ (part : Portion) (flags : Flags) (backward : flags.backward ≡ true) (t : CellState) where
     -- the end of a round in phase Closing
     end_closing : (events : List Event) (s u : CellState) → NothingLeft s → u ≡ after_round join start s.phase s → Run join start u events t → s.phase ≡ Closing → IsOver part flags s → IsOver part flags u
         → rounds events ≡ 1 → ends_a_round events ≡ true → Begins part flags (events_of 0 events) t
     end_closing events s u nothing after run closing over over_u one ends =
-        let next : u ≡ record s { phase = Refreshing; unsent = replicate (length (dues s.part)) true } = after ∙ after_closing join start s closing (ap (λ f. f.backward) over.flags_are ∙ backward) in
+        let next : u ≡ record s { phase = Refreshing; unsent = replicate (length (refreshes_of s.part)) true } = after ∙ after_closing join start s closing (ap (λ f. f.backward) over.flags_are ∙ backward) in
         record {
           s = u;
           rest = events;
@@ -66,7 +66,7 @@ module _ (join : ℕ → ℕ → ℕ) (start : ℕ → ℕ) where
             refreshing = ap (λ c. c.phase) next;
             none_owed = subst (All (λ owed. owed ≡ None)) (sym (ap (λ c. c.owed) next)) nothing.owed;
           };
-          all_unsent = ap (λ c. c.unsent) next ∙ ap (λ p. replicate (length (dues p)) true) over.part_is;
+          all_unsent = ap (λ c. c.unsent) next ∙ ap (λ p. replicate (length (refreshes_of p)) true) over.part_is;
         }
 
     -- from phase Closing

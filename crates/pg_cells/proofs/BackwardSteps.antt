@@ -8,7 +8,7 @@ use Rattle.pg_cells.specs.declared.bodies.CellBody.TheVariants.{Put as PutBody, 
 use Rattle.pg_cells.specs.declared.flags.Flags.{Flags}
 use Rattle.pg_cells.specs.declared.phases.Phase.{Phase}
 use Rattle.pg_cells.specs.declared.phases.Phase.TheVariants.{Filling, Closing, Refreshing}
-use Rattle.pg_cells.specs.States.{CellState, dues, new_cells}
+use Rattle.pg_cells.specs.States.{CellState, refreshes_of, new_cells}
 use Rattle.pg_cells.specs.Steps.{Event, CellsStep, Sends, Puts, after_body, after_round, ghosts_after, join_own, join_ghost}
 use Rattle.pg_cells.specs.Steps.Event.{put, handled, sent, closed, round_ended}
 use Rattle.pg_cells.specs.Runs.{Run}
@@ -100,8 +100,8 @@ module _ (join : ℕ → ℕ → ℕ) (start : ℕ → ℕ) where
   sent_phase to body s t (inr (inr h)) = ap (λ u. u.phase) h.after
 
   -- the end of a round in phase Closing, with backward
-  pub after_closing : (s : CellState) → s.phase ≡ Closing → s.flags.backward ≡ true → after_round join start s.phase s ≡ record s { phase = Refreshing; unsent = replicate (length (dues s.part)) true }
-  after_closing s closing backward = ap (λ p. after_round join start p s) closing ∙ ap (λ b. cond b (record s { phase = Refreshing; unsent = replicate (length (dues s.part)) true }) (record s { phase = Filling; ghosts = ghosts_after join start s })) backward
+  pub after_closing : (s : CellState) → s.phase ≡ Closing → s.flags.backward ≡ true → after_round join start s.phase s ≡ record s { phase = Refreshing; unsent = replicate (length (refreshes_of s.part)) true }
+  after_closing s closing backward = ap (λ p. after_round join start p s) closing ∙ ap (λ b. cond b (record s { phase = Refreshing; unsent = replicate (length (refreshes_of s.part)) true }) (record s { phase = Filling; ghosts = ghosts_after join start s })) backward
 
   pub after_refreshing : (s : CellState) → s.phase ≡ Refreshing → after_round join start s.phase s ≡ record s { phase = Filling }
   after_refreshing s refreshing = ap (λ p. after_round join start p s) refreshing

@@ -7,13 +7,13 @@ use Rattle.pg_adj.specs.Portions.{Portion}
 use Rattle.pg_adj.specs.declared.arcs.Ghost.{Ghost}
 use Rattle.pg_cells.specs.declared.bodies.CellBody.{CellBody}
 use Rattle.pg_cells.specs.declared.flags.Flags.{Flags}
-use Rattle.pg_cells.specs.declared.refreshes.Due.{Due}
+use Rattle.pg_cells.specs.declared.refreshes.PendingRefresh.{PendingRefresh}
 use Rattle.pg_cells.specs.Consistency.{contradicts}
-use Rattle.pg_cells.specs.States.{CellState, IsOwn, new_cells, dues}
+use Rattle.pg_cells.specs.States.{CellState, IsOwn, new_cells, refreshes_of}
 use Rattle.pg_cells.specs.Steps.{Event, Sends}
 use Rattle.pg_cells.specs.Steps.Event.{put, handled, sent, closed, round_ended}
 use Rattle.pg_cells.specs.Runs.{Run, rounds, handled_from, sent_to, puts_to}
-use Rattle.pg_cells.specs.Mirrored.{AreMirrored}
+use Rattle.pg_cells.specs.RefreshesMirrored.{AreRefreshesMirrored}
 use Rattle.pg_cells.specs.Freshness.{HaveSynchronized, HaveJoinedAll, HasJoinedAll, events_at, values_of}
 use Rattle.pg_cells.proofs.ForwardGroups.{AreGroups, groups_of_one, opened}
 use Rattle.pg_cells.proofs.ForwardRounds.{AreWhole, are_whole, handled_is_sent}
@@ -62,23 +62,23 @@ find_ghost (h ∷ ghosts) v = elim (cases_eq h.vertex.0 v) [
       ],
     )
 
-module _ (parts : List Portion) (mirrored : AreMirrored parts) (r : ℕ) (p : Portion) (v i : ℕ) (at_rank : slice_get parts r ≡ Some p) (at_place : IsOwn p v i) where
+module _ (parts : List Portion) (mirrored : AreRefreshesMirrored parts) (r : ℕ) (p : Portion) (v i : ℕ) (at_rank : slice_get parts r ≡ Some p) (at_place : IsOwn p v i) where
   no_own_ghost : (slot : ℕ) (g : Ghost) → slice_get p.ghosts slot ≡ Some g → g.vertex.0 ≡ v → ⊥
   no_own_ghost slot g there same =
       let kept = mirrored.kept r slot p g at_rank there in
-      mirrored.foreign r slot p g at_rank there (sym (mirrored.one_owner r g.home.0 i g.place v p kept.home at_rank kept.there at_place (kept.vertex ∙ ap Some same)))
+      mirrored.mirrored.foreign r slot p g at_rank there (sym (mirrored.mirrored.one_owner r g.home.0 i g.place v p kept.home at_rank kept.there at_place (kept.vertex ∙ ap Some same)))
 
   pub is_owner : IsOwner p v i
-  is_owner = record { only = λ place own. mirrored.one_place r place i v p at_rank own at_place; own = at_place; not_ghost = no_own_ghost }
+  is_owner = record { only = λ place own. mirrored.mirrored.one_place r place i v p at_rank own at_place; own = at_place; not_ghost = no_own_ghost }
 
   module _ (s : ℕ) (q : Portion) (at_sender : slice_get parts s ≡ Some q) (apart : s ≢ r) where
     not_own : (place : ℕ) → IsOwn q v place → ⊥
-    not_own place own = apart (sym (mirrored.one_owner r s i place v p q at_rank at_sender at_place own))
+    not_own place own = apart (sym (mirrored.mirrored.one_owner r s i place v p q at_rank at_sender at_place own))
 
     home_of : (l : ℕ) (g : Ghost) → slice_get q.ghosts l ≡ Some g → g.vertex.0 ≡ v → g.home.0 ≡ r
     home_of l g there same =
         let kept = mirrored.kept s l q g at_sender there in
-        sym (mirrored.one_owner r g.home.0 i g.place v p kept.home at_rank kept.there at_place (kept.vertex ∙ ap Some same))
+        sym (mirrored.mirrored.one_owner r g.home.0 i g.place v p kept.home at_rank kept.there at_place (kept.vertex ∙ ap Some same))
 
     -- the vertex of a ghost whose home is the rank stands at the ghost's place of the portion
     at_home : (l : ℕ) (g : Ghost) → slice_get q.ghosts l ≡ Some g → g.home.0 ≡ r → slice_get p.vertices g.place ≡ Some g.vertex.0
@@ -88,7 +88,7 @@ module _ (parts : List Portion) (mirrored : AreMirrored parts) (r : ℕ) (p : Po
         ap (λ h. slice_get h.vertices g.place) same ∙ kept.vertex
 
     place_of : (l : ℕ) (g : Ghost) → slice_get q.ghosts l ≡ Some g → g.vertex.0 ≡ v → g.place ≡ i
-    place_of l g there same = mirrored.one_place r g.place i v p at_rank (at_home l g there (home_of l g there same) ∙ ap Some same) at_place
+    place_of l g there same = mirrored.mirrored.one_place r g.place i v p at_rank (at_home l g there (home_of l g there same) ∙ ap Some same) at_place
 
     vertex_of : (l : ℕ) (g : Ghost) → slice_get q.ghosts l ≡ Some g → g.home.0 ≡ r → g.place ≡ i → g.vertex.0 ≡ v
     vertex_of l g there home place = same_Some g.vertex.0 v (sym (at_home l g there home) ∙ ap (slice_get p.vertices) place ∙ at_place)
@@ -109,7 +109,7 @@ module _ (parts : List Portion) (mirrored : AreMirrored parts) (r : ℕ) (p : Po
           found.0,
           elim found.1 [
             | inl here ↦ seen_at found.0
-                (λ l g there same. mirrored.one_slot s l found.0 q g here.0 at_sender there here.1 (same ∙ sym here.2))
+                (λ l g there same. mirrored.mirrored.one_slot s l found.0 q g here.0 at_sender there here.1 (same ∙ sym here.2))
                 (λ g there. ap (λ h. h.vertex.0) (same_Some g here.0 (sym there ∙ here.1)) ∙ here.2)
             | inr none ↦ seen_at found.0
                 (λ l g there same. absurd (none.1 l g there same))
@@ -117,19 +117,19 @@ module _ (parts : List Portion) (mirrored : AreMirrored parts) (r : ℕ) (p : Po
           ],
         )
 
-module _ (join : ℕ → ℕ → ℕ) (start : ℕ → ℕ) (parts : List Portion) (mirrored : AreMirrored parts) where
+module _ (join : ℕ → ℕ → ℕ) (start : ℕ → ℕ) (parts : List Portion) (mirrored : AreRefreshesMirrored parts) where
   -- a rank sends to other ranks alone
   sends_abroad : (r : ℕ) (p : Portion) (s : CellState) (to : ℕ) (body : CellBody) (t : CellState) → slice_get parts r ≡ Some p → s.part ≡ p → Sends s to body t → to ≢ r
   sends_abroad r p s to body t there part h = elim h [
-    | inl paid ↦ λ e. mirrored.foreign r paid.slot p paid.held there (ap (λ q. slice_get q.ghosts paid.slot) (sym part) ∙ paid.there) (sym paid.home ∙ e)
-    | inr (inl note) ↦ λ e. mirrored.foreign r note.slot p note.held there (ap (λ q. slice_get q.ghosts note.slot) (sym part) ∙ note.there) (sym note.home ∙ e)
-    | inr (inr due) ↦ λ e. not_held due.entry due.due (ap (λ q. slice_get (dues q) due.entry) (sym part) ∙ due.there) (sym due.rank ∙ e)
+    | inl paid ↦ λ e. mirrored.mirrored.foreign r paid.slot p paid.held there (ap (λ q. slice_get q.ghosts paid.slot) (sym part) ∙ paid.there) (sym paid.home ∙ e)
+    | inr (inl note) ↦ λ e. mirrored.mirrored.foreign r note.slot p note.held there (ap (λ q. slice_get q.ghosts note.slot) (sym part) ∙ note.there) (sym note.home ∙ e)
+    | inr (inr pending) ↦ λ e. not_held pending.entry pending.pending (ap (λ q. slice_get (refreshes_of q) pending.entry) (sym part) ∙ pending.there) (sym pending.rank ∙ e)
   ]
     where
-      not_held : (entry : ℕ) (due : Due) → slice_get (dues p) entry ≡ Some due → due.holder.rank.0 ≢ r
-      not_held entry due at e =
-          let held = mirrored.held r entry p due there at in
-          mirrored.foreign r due.holder.slot held.holder held.ghost_there (ap (slice_get parts) (sym e) ∙ held.there) held.held held.home
+      not_held : (entry : ℕ) (pending : PendingRefresh) → slice_get (refreshes_of p) entry ≡ Some pending → pending.holder.rank.0 ≢ r
+      not_held entry pending at e =
+          let held = mirrored.held r entry p pending there at in
+          mirrored.mirrored.foreign r pending.holder.slot held.holder held.ghost_there (ap (slice_get parts) (sym e) ∙ held.there) held.held held.home
 
   none_to_itself : (r : ℕ) (p : Portion) (events : List Event) (s t : CellState) → slice_get parts r ≡ Some p → s.part ≡ p → Run join start s events t → sent_to r events ≡ []
   none_to_itself r p [] s t there part run = refl

@@ -142,7 +142,7 @@ module _ (join : ℕ → ℕ → ℕ) (start : ℕ → ℕ) (p : Portion) (r v i
   one_more s (sent to body) t y events part there step = elim step [
     | inl paid ↦ (y, ap (λ c. slice_get c.own i) paid.after ∙ there, refl)
     | inr (inl note) ↦ (y, ap (λ c. slice_get c.own i) note.after ∙ there, refl)
-    | inr (inr due) ↦ (y, ap (λ c. slice_get c.own i) due.after ∙ there, refl)
+    | inr (inr pending) ↦ (y, ap (λ c. slice_get c.own i) pending.after ∙ there, refl)
   ]
   one_more s closed t y events part there step = (y, ap (λ c. slice_get c.own i) step.1 ∙ there, refl)
   one_more s round_ended t y events part there step =

@@ -53,10 +53,10 @@ module _ (join : ℕ → ℕ → ℕ) (start : ℕ → ℕ) where
   body_phase (Refresh slot value) s = refl
 
   sends_framed : (s : CellState) (to : ℕ) (body : CellBody) (t : CellState) → Sends s to body t → frame_of t ≡ frame_of s
-  sends_framed s to body t h = elim h [ inl owed ↦ ap frame_of owed.after | inr (inl noted) ↦ ap frame_of noted.after | inr (inr due) ↦ ap frame_of due.after ]
+  sends_framed s to body t h = elim h [ inl owed ↦ ap frame_of owed.after | inr (inl noted) ↦ ap frame_of noted.after | inr (inr pending) ↦ ap frame_of pending.after ]
 
   sends_phase : (s : CellState) (to : ℕ) (body : CellBody) (t : CellState) → Sends s to body t → t.phase ≡ s.phase
-  sends_phase s to body t h = elim h [ inl owed ↦ ap (λ c. c.phase) owed.after | inr (inl noted) ↦ ap (λ c. c.phase) noted.after | inr (inr due) ↦ ap (λ c. c.phase) due.after ]
+  sends_phase s to body t h = elim h [ inl owed ↦ ap (λ c. c.phase) owed.after | inr (inl noted) ↦ ap (λ c. c.phase) noted.after | inr (inr pending) ↦ ap (λ c. c.phase) pending.after ]
 
   pub framed : (s : CellState) (e : Event) (t : CellState) → CellsStep join start s e t → frame_of t ≡ frame_of s
   framed s (put v x) t h = put_framed s v x t h.1

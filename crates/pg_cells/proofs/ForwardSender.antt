@@ -102,7 +102,7 @@ module _ (join : ℕ → ℕ → ℕ) (start : ℕ → ℕ) where
     as_long s (sent to body) t now step = elim step [
       | inl paid ↦ ap (λ c. length c.owed) paid.after ∙ length-set s.owed paid.slot None
       | inr (inl note) ↦ absurd (now.noted note.slot note.noted)
-      | inr (inr due) ↦ ap (λ c. length c.owed) due.after
+      | inr (inr pending) ↦ ap (λ c. length c.owed) pending.after
     ]
     as_long s closed t now step = ap (λ c. length c.owed) step.1
     as_long s round_ended t now step = ap (λ c. length c.owed) step.1 ∙ ap (λ held. length held.3) (round_held join start s.phase s)
@@ -116,7 +116,7 @@ module _ (join : ℕ → ℕ → ℕ) (start : ℕ → ℕ) where
     as_noted s (sent to body) t now step = elim step [
       | inl paid ↦ ap (λ c. c.noted) paid.after
       | inr (inl note) ↦ absurd (now.noted note.slot note.noted)
-      | inr (inr due) ↦ ap (λ c. c.noted) due.after
+      | inr (inr pending) ↦ ap (λ c. c.noted) pending.after
     ]
     as_noted s closed t now step = ap (λ c. c.noted) step.1
     as_noted s round_ended t now step = ap (λ c. c.noted) step.1 ∙ ap (λ held. held.4) (round_held join start s.phase s)
@@ -207,8 +207,8 @@ module _ (join : ℕ → ℕ → ℕ) (start : ℕ → ℕ) where
       one_more s (sent to body) t events now step after = elim step [
         | inl paid ↦ owed_sent s to body t events now paid after
         | inr (inl note) ↦ absurd (now.noted note.slot note.noted)
-        | inr (inr due) ↦ same_groups _ _ _ _ _ _ (ap (λ b. values_at i (sent_to r (sent to b ∷ events))) due.body_is ∙ refresh_skipped (eqb to r) i due.due.holder.slot _ (sent_to r events))
-            (sym (ap (λ c. get_or c.owed k None) due.after)) refl after
+        | inr (inr pending) ↦ same_groups _ _ _ _ _ _ (ap (λ b. values_at i (sent_to r (sent to b ∷ events))) pending.body_is ∙ refresh_skipped (eqb to r) i pending.pending.holder.slot _ (sent_to r events))
+            (sym (ap (λ c. get_or c.owed k None) pending.after)) refl after
       ]
       one_more s closed t events now step after = same_groups _ _ _ _ _ _ refl (sym (ap (λ c. get_or c.owed k None) step.1)) refl after
       one_more s round_ended t events now step after =

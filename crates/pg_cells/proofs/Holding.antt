@@ -1,6 +1,6 @@
 -- The ghosts of a rank ascend by vertex: a binary search finds the slot of a vertex, and there are no more of them than
 -- vertices.
-use Rattle.std.proofs.Common.{◌≡◌, ◌≢◌, ◌<◌, ◌≤◌, ◌-◌, ℕ, zero, suc, List, AllPairs, All, Some, length, get_or, ap, ⊎_elim, arith}
+use Rattle.std.proofs.Common.{◌≡◌, ◌≢◌, ◌<◌, ◌≤◌, ℕ, List, AllPairs, Some, length, get_or, ap, ⊎_elim, arith}
 use Rattle.std.specs.Prelude.{slice_get}
 use Rattle.std.specs.List.{HoldsAt, AllWithin}
 use Rattle.std.specs.List.Sorted.{IsNonDecreasingBy}
@@ -10,7 +10,6 @@ use Rattle.std.proofs.lemmas.Bool.{cases_lt}
 use Rattle.std.proofs.lemmas.Bool.Decides.{nat_tests}
 use Rattle.std.proofs.lemmas.Option.{get_or_from_slice_get, slice_get_within, slice_get-get_or}
 use Rattle.pg_adj.specs.declared.arcs.Ghost.{Ghost}
-use Rattle.pg_adj.specs.Portions.{IsVertex}
 
 abbrev some_ghost : Ghost
 some_ghost = record { vertex = record { 0 = 0 }; home = record { 0 = 0 }; place = 0 }
@@ -48,13 +47,3 @@ no_ghost held v at a h slot g is e =
     ⊎_elim (λ before. let l = lt_from_less (get_or held slot g).vertex.0 v (parts.0 slot g (omega arith) before) in let s = ap (λ (x : Ghost). x.vertex.0) same in omega arith)
     (λ after. let l = gt_from_greater (get_or held slot g).vertex.0 v (parts.1 slot g after lt) in let s = ap (λ (x : Ghost). x.vertex.0) same in omega arith)
     (cases_lt slot at)
-
-above_slot : (held : List Ghost) → AllPairs (λ g h. g.vertex.0 < h.vertex.0) held → All (λ g. 1 ≤ g.vertex.0) held → (k : ℕ) (d : Ghost) → k < length held → k < (get_or held k d).vertex.0
-above_slot held a one zero d lt = let h = one zero d lt in omega arith
-above_slot held a one (suc k) d lt = let before = above_slot held a one k d (omega arith) in let up = a k (suc k) d (omega arith) lt in omega arith
-
--- no more ghosts than vertices
-pub few_ghosts : (held : List Ghost) (n : ℕ) → AllPairs (λ g h. g.vertex.0 < h.vertex.0) held → All (λ g. IsVertex n g.vertex.0) held → length held ≤ n
-few_ghosts held n a vertices = ⊎_elim
-    (λ lt. let k = above_slot held a (λ k d l. (vertices k d l).first) (length held - 1) some_ghost (omega arith) in let b = (vertices (length held - 1) some_ghost (omega arith)).last in omega arith)
-    (λ ge. omega arith) (cases_lt 0 (length held))

@@ -1,7 +1,4 @@
-mod MirrorLists
-mod MirrorDues
-mod MirrorHoldings
-mod MirrorGhosts
+mod MirrorRefreshes
 mod Mirror
 mod BackwardLists
 mod BackwardSteps
@@ -16,7 +13,8 @@ mod ForwardOwner
 mod Forward
 mod Owing
 mod Holding
-mod Dues
+mod RefreshLists
 mod Padded
-mod Letters
-mod Laws
+mod NextSends
+mod Synchronizes
+mod Example

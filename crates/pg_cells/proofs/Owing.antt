@@ -1,4 +1,4 @@
--- A list of the slots with a debt: it stays one as debts are entered and paid, and it is never longer than there are
+-- A list of the slots for which something is pending: it stays one as puts are entered and sent, and it is never longer than there are
 -- slots.
 use Rattle.std.proofs.Common.{◌≡◌, ◌≢◌, ◌+◌, ◌-◌, ◌<◌, ◌≤◌, ℕ, Bool, true, false, eqb, ◌||◌, List, [], ◌∷◌, ◌++◌, Option, Some, None, IfSome, zero, suc, All, AllPairs, length, get_or, set, take, is_some, refl, sym, ap, ◌∙◌, subst, ⊎_elim, arith}
 use Rattle.std.specs.List.{list_any}
@@ -10,30 +10,30 @@ use Rattle.std.proofs.lemmas.List.Quantifiers.{all_pairs_push}
 use Rattle.std.proofs.lemmas.Map.Made.{IsDistinct-from_AllPairs}
 use Rattle.std.proofs.lemmas.Map.Steps.{length-le_from_distinct_below}
 use Rattle.std.proofs.lemmas.Option.{none-some, get_or_from_slice_get, slice_get_within, slice_get-get_or}
-use Rattle.pg_cells.specs.Debts.{AreDebts, has_debt, next_debt}
+use Rattle.pg_cells.specs.PendingPuts.{ArePending, is_pending, next_slot}
 
-pub has_debt-lt : (owed : List (Option ℕ)) (noted : List Bool) (slot room : ℕ) → length owed ≤ room → length noted ≤ room → has_debt owed noted slot ≡ true → slot < room
-has_debt-lt owed noted slot room o n h = ⊎_elim (λ lt. lt)
-    (λ ge. absurd (both_ways (has_debt owed noted slot)
+pub is_pending-lt : (owed : List (Option ℕ)) (noted : List Bool) (slot room : ℕ) → length owed ≤ room → length noted ≤ room → is_pending owed noted slot ≡ true → slot < room
+is_pending-lt owed noted slot room o n h = ⊎_elim (λ lt. lt)
+    (λ ge. absurd (both_ways (is_pending owed noted slot)
     (or_from (is_some (get_or owed slot None)) (get_or noted slot false) (ap (λ o. is_some o) (get_or_past owed slot None (omega arith))) (get_or_past noted slot false (omega arith))) h))
     (cases_lt slot room)
 
-listed-lt : (owed : List (Option ℕ)) (noted : List Bool) (slots : List ℕ) (slot room : ℕ) → length owed ≤ room → length noted ≤ room → AreDebts owed noted slots
+listed-lt : (owed : List (Option ℕ)) (noted : List Bool) (slots : List ℕ) (slot room : ℕ) → length owed ≤ room → length noted ≤ room → ArePending owed noted slots
     → list_any (eqb slot) slots ≡ true → slot < room
-listed-lt owed noted slots slot room o n d h = has_debt-lt owed noted slot room o n (sym (d.each slot) ∙ h)
+listed-lt owed noted slots slot room o n d h = is_pending-lt owed noted slot room o n (sym (d.each slot) ∙ h)
 
-apart : (owed : List (Option ℕ)) (noted : List Bool) (slots : List ℕ) (slot : ℕ) → AreDebts owed noted slots → has_debt owed noted slot ≡ false
+apart : (owed : List (Option ℕ)) (noted : List Bool) (slots : List ℕ) (slot : ℕ) → ArePending owed noted slots → is_pending owed noted slot ≡ false
     → (k d : ℕ) → k < length slots → get_or slots k d ≢ slot
 apart owed noted slots slot a h k d lt e =
     both_ways (list_any (eqb slot) slots) (a.each slot ∙ h) (list_any_at (eqb slot) slots k d lt (eq-eqb slot (get_or slots k d) (sym e)))
 
-once_more : (owed : List (Option ℕ)) (noted : List Bool) (slots : List ℕ) (slot : ℕ) → AreDebts owed noted slots → has_debt owed noted slot ≡ false
+once_more : (owed : List (Option ℕ)) (noted : List Bool) (slots : List ℕ) (slot : ℕ) → ArePending owed noted slots → is_pending owed noted slot ≡ false
     → AllPairs (λ a b. a ≢ b) (slots ++ slot ∷ [])
 once_more owed noted slots slot a h = all_pairs_push (λ a b. a ≢ b) slots slot a.once (apart owed noted slots slot a h)
 
--- a slot without a debt leaves room for itself
-pub listed_room : (owed : List (Option ℕ)) (noted : List Bool) (slots : List ℕ) (slot room : ℕ) → length owed ≤ room → length noted ≤ room → AreDebts owed noted slots
-    → slot < room → has_debt owed noted slot ≡ false → length slots < room
+-- a slot for which nothing is pending leaves room for itself
+pub listed_room : (owed : List (Option ℕ)) (noted : List Bool) (slots : List ℕ) (slot room : ℕ) → length owed ≤ room → length noted ≤ room → ArePending owed noted slots
+    → slot < room → is_pending owed noted slot ≡ false → length slots < room
 listed_room owed noted slots slot room o n a lt h =
     let all = slots ++ slot ∷ [] in
     let below : (q : ℕ) → list_any (eqb q) all ≡ true → q < room = λ q m.
@@ -43,12 +43,12 @@ listed_room owed noted slots slot room o n a lt h =
     let most = length-le_from_distinct_below all room (IsDistinct-from_AllPairs Decides-eqb all (once_more owed noted slots slot a h)) below in
     omega (arith, length_push slots slot)
 
--- the debts after a further one of this slot
+-- what is pending after a further put of this slot
 pub record OwesMore (owed : List (Option ℕ)) (noted : List Bool) (slot : ℕ) (owed' : List (Option ℕ)) (noted' : List Bool) : Type 0 where
-  pub more : (q : ℕ) → has_debt owed' noted' q ≡ (has_debt owed noted q || eqb q slot)
+  pub more : (q : ℕ) → is_pending owed' noted' q ≡ (is_pending owed noted q || eqb q slot)
 
-pub listed_push : (owed : List (Option ℕ)) (noted : List Bool) (slots : List ℕ) (slot : ℕ) (owed' : List (Option ℕ)) (noted' : List Bool) → AreDebts owed noted slots
-    → has_debt owed noted slot ≡ false → OwesMore owed noted slot owed' noted' → AreDebts owed' noted' (slots ++ slot ∷ [])
+pub listed_push : (owed : List (Option ℕ)) (noted : List Bool) (slots : List ℕ) (slot : ℕ) (owed' : List (Option ℕ)) (noted' : List Bool) → ArePending owed noted slots
+    → is_pending owed noted slot ≡ false → OwesMore owed noted slot owed' noted' → ArePending owed' noted' (slots ++ slot ∷ [])
 listed_push owed noted slots slot owed' noted' a h m = record {
   each = λ q. let l = list_any-append (eqb q) slots (slot ∷ []) in let b = a.each q in let w = m.more q in grind (arith, nat_tests);
   once = once_more owed noted slots slot a h;
@@ -58,12 +58,12 @@ or_none : (b : Bool) → (b || false) ≡ b
 or_none true = refl
 or_none false = refl
 
-pub listed_same : (owed : List (Option ℕ)) (noted : List Bool) (slots : List ℕ) (slot : ℕ) (owed' : List (Option ℕ)) (noted' : List Bool) → AreDebts owed noted slots
-    → has_debt owed noted slot ≡ true → OwesMore owed noted slot owed' noted' → AreDebts owed' noted' slots
+pub listed_same : (owed : List (Option ℕ)) (noted : List Bool) (slots : List ℕ) (slot : ℕ) (owed' : List (Option ℕ)) (noted' : List Bool) → ArePending owed noted slots
+    → is_pending owed noted slot ≡ true → OwesMore owed noted slot owed' noted' → ArePending owed' noted' slots
 listed_same owed noted slots slot owed' noted' a h m = record {
   each = λ q. ⊎_elim
-      (λ e. let i : has_debt owed noted q ≡ true = ap (λ s. has_debt owed noted s) e ∙ h in a.each q ∙ (i ∙ sym (m.more q ∙ or_left (has_debt owed noted q) (eqb q slot) i)))
-      (λ ne. a.each q ∙ sym (m.more q ∙ (ap (λ b. has_debt owed noted q || b) (ne_eqb q slot ne) ∙ or_none (has_debt owed noted q))))
+      (λ e. let i : is_pending owed noted q ≡ true = ap (λ s. is_pending owed noted s) e ∙ h in a.each q ∙ (i ∙ sym (m.more q ∙ or_left (is_pending owed noted q) (eqb q slot) i)))
+      (λ ne. a.each q ∙ sym (m.more q ∙ (ap (λ b. is_pending owed noted q || b) (ne_eqb q slot ne) ∙ or_none (is_pending owed noted q))))
       (cases_eq q slot);
   once = a.once;
 }
@@ -71,24 +71,24 @@ listed_same owed noted slots slot owed' noted' a h m = record {
 pub owes_put : (owed : List (Option ℕ)) (noted : List Bool) (slot value : ℕ) → slot < length owed → OwesMore owed noted slot (set owed slot (Some value)) noted
 owes_put owed noted slot value lt = record {
   more = λ q. ⊎_elim
-      (λ e. ap (λ k. has_debt (set owed slot (Some value)) noted k) e
+      (λ e. ap (λ k. is_pending (set owed slot (Some value)) noted k) e
       ∙ (or_left (is_some (get_or (set owed slot (Some value)) slot None)) (get_or noted slot false) (ap (λ o. is_some o) (get_or-set_same owed slot (Some value) None lt))
-      ∙ sym (or_right (has_debt owed noted q) (eqb q slot) (eq-eqb q slot e))))
-      (λ ne. let s = get_or-set_other owed slot q (Some value) None ne in rw (s, ne_eqb q slot ne) (sym (or_none (has_debt owed noted q))))
+      ∙ sym (or_right (is_pending owed noted q) (eqb q slot) (eq-eqb q slot e))))
+      (λ ne. let s = get_or-set_other owed slot q (Some value) None ne in rw (s, ne_eqb q slot ne) (sym (or_none (is_pending owed noted q))))
       (cases_eq q slot);
 }
 
 pub owes_note : (owed : List (Option ℕ)) (noted : List Bool) (slot : ℕ) → slot < length noted → OwesMore owed noted slot owed (set noted slot true)
 owes_note owed noted slot lt = record {
   more = λ q. ⊎_elim
-      (λ e. ap (λ k. has_debt owed (set noted slot true) k) e ∙ (or_right (is_some (get_or owed slot None)) (get_or (set noted slot true) slot false) (get_or-set_same noted slot true false lt)
-      ∙ sym (or_right (has_debt owed noted q) (eqb q slot) (eq-eqb q slot e))))
-      (λ ne. let s = get_or-set_other noted slot q true false ne in rw (s, ne_eqb q slot ne) (sym (or_none (has_debt owed noted q))))
+      (λ e. ap (λ k. is_pending owed (set noted slot true) k) e ∙ (or_right (is_some (get_or owed slot None)) (get_or (set noted slot true) slot false) (get_or-set_same noted slot true false lt)
+      ∙ sym (or_right (is_pending owed noted q) (eqb q slot) (eq-eqb q slot e))))
+      (λ ne. let s = get_or-set_other noted slot q true false ne in rw (s, ne_eqb q slot ne) (sym (or_none (is_pending owed noted q))))
       (cases_eq q slot);
 }
 
 -- what was listed, without its last slot
-front : (slots : List ℕ) (slot : ℕ) → next_debt slots ≡ Some slot → slots ≡ take (length slots - 1) slots ++ slot ∷ []
+front : (slots : List ℕ) (slot : ℕ) → next_slot slots ≡ Some slot → slots ≡ take (length slots - 1) slots ++ slot ∷ []
 front slots slot h =
     let lt = slice_get_within slots (length slots - 1) slot h in
     let e : length slots - 1 + 1 ≡ length slots = omega arith in
@@ -114,10 +114,10 @@ front_once : (ss : List ℕ) (slot : ℕ) → AllPairs (λ a b. a ≢ b) (ss ++ 
 front_once ss slot h i j d lt within e =
     h i j d lt (omega (arith, length_push ss slot)) (get_or_append_left ss (slot ∷ []) d i (omega arith) ∙ (e ∙ sym (get_or_append_left ss (slot ∷ []) d j within)))
 
-paid_front : (owed : List (Option ℕ)) (noted : List Bool) (slot : ℕ) (ss : List ℕ) → AreDebts owed noted (ss ++ slot ∷ []) → AreDebts (set owed slot None) (set noted slot false) ss
+paid_front : (owed : List (Option ℕ)) (noted : List Bool) (slot : ℕ) (ss : List ℕ) → ArePending owed noted (ss ++ slot ∷ []) → ArePending (set owed slot None) (set noted slot false) ss
 paid_front owed noted slot ss a = record {
   each = λ q. ⊎_elim
-      (λ e. ap (λ k. list_any (eqb k) ss) e ∙ (last_apart ss slot a.once ∙ sym (ap (λ k. has_debt (set owed slot None) (set noted slot false) k) e
+      (λ e. ap (λ k. list_any (eqb k) ss) e ∙ (last_apart ss slot a.once ∙ sym (ap (λ k. is_pending (set owed slot None) (set noted slot false) k) e
       ∙ or_from (is_some (get_or (set owed slot None) slot None)) (get_or (set noted slot false) slot false) (ap (λ o. is_some o) (none_owed owed slot)) (none_noted noted slot))))
       (λ ne. let l = list_any-append (eqb q) ss (slot ∷ []) in let w = a.each q in let b = ne_eqb q slot ne in
       let o = get_or-set_other owed slot q None None ne in let n = get_or-set_other noted slot q false false ne in grind (arith, nat_tests))
@@ -125,34 +125,34 @@ paid_front owed noted slot ss a = record {
   once = front_once ss slot a.once;
 }
 
-pub paid : (owed : List (Option ℕ)) (noted : List Bool) (slots : List ℕ) (slot : ℕ) → AreDebts owed noted slots → next_debt slots ≡ Some slot
-    → AreDebts (set owed slot None) (set noted slot false) (take (length slots - 1) slots)
-paid owed noted slots slot a h = paid_front owed noted slot (take (length slots - 1) slots) (subst (λ ss. AreDebts owed noted ss) (front slots slot h) a)
+pub paid : (owed : List (Option ℕ)) (noted : List Bool) (slots : List ℕ) (slot : ℕ) → ArePending owed noted slots → next_slot slots ≡ Some slot
+    → ArePending (set owed slot None) (set noted slot false) (take (length slots - 1) slots)
+paid owed noted slots slot a h = paid_front owed noted slot (take (length slots - 1) slots) (subst (λ ss. ArePending owed noted ss) (front slots slot h) a)
 
--- the next debt is one
-pub next_is : (owed : List (Option ℕ)) (noted : List Bool) (slots : List ℕ) (slot : ℕ) → AreDebts owed noted slots → next_debt slots ≡ Some slot → has_debt owed noted slot ≡ true
+-- for the next slot something is pending
+pub next_is : (owed : List (Option ℕ)) (noted : List Bool) (slots : List ℕ) (slot : ℕ) → ArePending owed noted slots → next_slot slots ≡ Some slot → is_pending owed noted slot ≡ true
 next_is owed noted slots slot a h =
     let lt = slice_get_within slots (length slots - 1) slot h in
     sym (a.each slot) ∙ list_any_at (eqb slot) slots (length slots - 1) slot lt (eq-eqb slot (get_or slots (length slots - 1) slot) (sym (get_or_from_slice_get slots (length slots - 1) slot slot h)))
 
-no_slots : (slots : List ℕ) → next_debt slots ≡ None → slots ≡ []
+no_slots : (slots : List ℕ) → next_slot slots ≡ None → slots ≡ []
 no_slots slots h = ⊎_elim (λ lt. absurd (none-some (get_or slots (length slots - 1) 0) (sym h ∙ slice_get-get_or slots (length slots - 1) 0 (omega arith))))
     (λ ge. nil_from_length slots (omega arith)) (cases_lt 0 (length slots))
 
-no_debt : (owed : List (Option ℕ)) (noted : List Bool) (slots : List ℕ) (slot : ℕ) → AreDebts owed noted slots → next_debt slots ≡ None → has_debt owed noted slot ≡ false
-no_debt owed noted slots slot a h = sym (a.each slot) ∙ ap (λ ss. list_any (eqb slot) ss) (no_slots slots h)
+none_pending : (owed : List (Option ℕ)) (noted : List Bool) (slots : List ℕ) (slot : ℕ) → ArePending owed noted slots → next_slot slots ≡ None → is_pending owed noted slot ≡ false
+none_pending owed noted slots slot a h = sym (a.each slot) ∙ ap (λ ss. list_any (eqb slot) ss) (no_slots slots h)
 
 not_some : (o : Option ℕ) → is_some o ≡ false → o ≡ None
 not_some None h = refl
 not_some (Some x) h = cc
 
-pub none_left : (owed : List (Option ℕ)) (noted : List Bool) (slots : List ℕ) → AreDebts owed noted slots → next_debt slots ≡ None → All (λ owed. owed ≡ None) owed
-none_left owed noted slots a h k d lt = get_or_default owed k d None lt ∙ not_some (get_or owed k None) (or_parts _ _ (no_debt owed noted slots k a h)).0
+pub none_left : (owed : List (Option ℕ)) (noted : List Bool) (slots : List ℕ) → ArePending owed noted slots → next_slot slots ≡ None → All (λ owed. owed ≡ None) owed
+none_left owed noted slots a h k d lt = get_or_default owed k d None lt ∙ not_some (get_or owed k None) (or_parts _ _ (none_pending owed noted slots k a h)).0
 
-pub no_notes_left : (owed : List (Option ℕ)) (noted : List Bool) (slots : List ℕ) → AreDebts owed noted slots → next_debt slots ≡ None → All (λ noted. noted ≡ false) noted
-no_notes_left owed noted slots a h k d lt = get_or_default noted k d false lt ∙ (or_parts _ _ (no_debt owed noted slots k a h)).1
+pub no_notes_left : (owed : List (Option ℕ)) (noted : List Bool) (slots : List ℕ) → ArePending owed noted slots → next_slot slots ≡ None → All (λ noted. noted ≡ false) noted
+no_notes_left owed noted slots a h k d lt = get_or_default noted k d false lt ∙ (or_parts _ _ (none_pending owed noted slots k a h)).1
 
-pub next_has : (owed : List (Option ℕ)) (noted : List Bool) (slots : List ℕ) (r : Option ℕ) → AreDebts owed noted slots → r ≡ next_debt slots
-    → IfSome r (λ slot. has_debt owed noted slot ≡ true)
+pub next_has : (owed : List (Option ℕ)) (noted : List Bool) (slots : List ℕ) (r : Option ℕ) → ArePending owed noted slots → r ≡ next_slot slots
+    → IfSome r (λ slot. is_pending owed noted slot ≡ true)
 next_has owed noted slots None a h = tt
 next_has owed noted slots (Some slot) a h = next_is owed noted slots slot a (sym h)

@@ -1,12 +1,13 @@
 -- What a synchronize leaves in the ghosts of all ranks and in the cells of their owners.
 -- Source: the Parallel Boost Graph Library's distributed property maps; ghost cells after Gregor and Lumsdaine,
 -- Lifting Sequential Graph Algorithms for Distributed-Memory Parallel Computation (OOPSLA 2005).
-use Rattle.std.specs.Prelude.{◌≡◌, ℕ, ◌+◌, ◌<◌, ◌≤◌, true, List, [], Some, map, length, slice_get, slice_index_or, ◌==◌}
+use Rattle.std.specs.Prelude.{◌≡◌, ℕ, ◌+◌, ◌<◌, true, List, [], Some, map, length, slice_get, slice_index_or, ◌==◌}
 use Rattle.std.specs.List.{Contains, filter, fold}
 use Rattle.pg_base.specs.Graph.{Graph}
 use Rattle.pg_adj.specs.declared.arcs.Ghost.{Ghost}
 use Rattle.pg_adj.specs.Portions.{Portion}
-use Rattle.pg_adj.specs.Division.{Sharing, Divided}
+use Rattle.pg_dist.specs.Sharing.{Sharing, IsSharing}
+use Rattle.pg_adj.specs.Division.{Divided}
 use Rattle.pg_cells.specs.declared.flags.Flags.{Flags}
 use Rattle.pg_cells.specs.States.{CellState, new_cells}
 use Rattle.pg_cells.specs.Steps.Event.{closed}
@@ -17,19 +18,9 @@ use Rattle.pg_cells.specs.Runs.{Run, rounds, ends_a_round, events_of, handled_fr
 abbrev pub events_at : List (List Event) → ℕ → List Event
 events_at runs rank = slice_index_or runs rank []
 
--- The laws of a distribution (pg_dist's trait) for the functions of a sharing.
-pub record IsDistribution (s : Sharing) : Type 0 where
-  pub owner_is_rank : (v : ℕ) → 1 ≤ v → v ≤ s.n → s.owner v < s.ranks
-  pub local_below : (v : ℕ) → 1 ≤ v → v ≤ s.n → s.local v < s.count (s.owner v)
-  pub global_of_local : (v : ℕ) → 1 ≤ v → v ≤ s.n → s.global (s.owner v) (s.local v) ≡ v
-  pub global_first : (r i : ℕ) → r < s.ranks → i < s.count r → 1 ≤ s.global r i
-  pub global_last : (r i : ℕ) → r < s.ranks → i < s.count r → s.global r i ≤ s.n
-  pub owner_of_global : (r i : ℕ) → r < s.ranks → i < s.count r → s.owner (s.global r i) ≡ r
-  pub local_of_global : (r i : ℕ) → r < s.ranks → i < s.count r → s.local (s.global r i) ≡ i
-
 -- the parts of one division
 abbrev pub AreOfOneDivision : List Portion → Type 0
-AreOfOneDivision parts = (s : Sharing) × (g : Graph) × IsDistribution s × Divided s g parts
+AreOfOneDivision parts = (s : Sharing) × (g : Graph) × IsSharing s × Divided s g parts
 
 module _ (join : ℕ → ℕ → ℕ) (start : ℕ → ℕ) where
   -- The cells of all ranks, by rank, from new ones to the end of the round after the one in which all close: with

@@ -2,11 +2,12 @@ pub mod Consistency
 pub mod States
 pub mod Steps
 pub mod Runs
-pub mod Mirrored
+pub mod RefreshesMirrored
 pub mod Freshness
 pub mod Unsent
 pub mod Sparse
 pub mod Joins
-pub mod Debts
+pub mod PendingPuts
 pub mod Shown
-pub mod Errands
+pub mod Example
+pub mod NextSends

@@ -12,7 +12,7 @@ state_of c = record {
   phase = c.phase;
   own = c.own.items;
   ghosts = c.ghosts.items;
-  owed = if c.flags.forward then c.debts.owed.items else replicate (length c.part.value.ghosts) None;
-  noted = if c.flags.flush then c.debts.noted.items else replicate (length c.part.value.ghosts) false;
-  unsent = unsent_from (vec_len c.refreshes.dues) c.refreshes.next;
+  owed = if c.flags.forward then c.pending_puts.owed.items else replicate (length c.part.value.ghosts) None;
+  noted = if c.flags.flush then c.pending_puts.noted.items else replicate (length c.part.value.ghosts) false;
+  unsent = unsent_from (vec_len c.refreshes.entries) c.refreshes.next;
 }

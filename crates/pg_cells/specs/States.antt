@@ -4,26 +4,26 @@ use Rattle.std.specs.Prelude.{◌≡◌, ◌⊎◌, ℕ, zero, suc, Bool, false,
 use Rattle.pg_adj.specs.declared.arcs.Ghost.{Ghost}
 use Rattle.pg_adj.specs.Portions.{Portion}
 use Rattle.pg_base.specs.Keyed.{row_of}
-use Rattle.pg_cells.specs.declared.refreshes.Due.{Due}
+use Rattle.pg_cells.specs.declared.refreshes.PendingRefresh.{PendingRefresh}
 use Rattle.pg_cells.specs.declared.flags.Flags.{Flags}
 use Rattle.pg_cells.specs.declared.phases.Phase.{Phase}
 use Rattle.pg_cells.specs.declared.phases.Phase.TheVariants.{Filling, Closing, Refreshing}
 
 -- an own cell goes to each of its holders: the place with the holder, in order
-abbrev pub dues_at : Portion → ℕ → List Due
-dues_at part place = map (λ h. record { place = place; holder = h }) (row_of part.holder_bounds part.holders place)
+abbrev pub refreshes_at : Portion → ℕ → List PendingRefresh
+refreshes_at part place = map (λ h. record { place = place; holder = h }) (row_of part.holder_bounds part.holders place)
 
 -- the same for all places below this one
-abbrev pub dues_below : Portion → ℕ → List Due
-dues_below part zero = []
-dues_below part (suc place) = dues_below part place ++ dues_at part place
+abbrev pub refreshes_below : Portion → ℕ → List PendingRefresh
+refreshes_below part zero = []
+refreshes_below part (suc place) = refreshes_below part place ++ refreshes_at part place
 
 -- every own place with each of its holders
-abbrev pub dues : Portion → List Due
-dues part = dues_below part (length part.vertices)
+abbrev pub refreshes_of : Portion → List PendingRefresh
+refreshes_of part = refreshes_below part (length part.vertices)
 
 -- The cells over a part. Own cells are listed by place, ghosts by slot. What is owed to the ghosts' owners, and which
--- ghosts are noted, are listed by slot too. `unsent` says, in the order of the dues, which own cells are yet to go to
+-- ghosts are noted, are listed by slot too. `unsent` says, in the order of these refreshes, which own cells are yet to go to
 -- which holder.
 pub record CellState : Type 0 where
   pub part : Portion
@@ -53,7 +53,7 @@ new_cells start part flags = record {
   ghosts = started start part;
   owed = replicate (length part.ghosts) None;
   noted = replicate (length part.ghosts) false;
-  unsent = replicate (length (dues part)) false;
+  unsent = replicate (length (refreshes_of part)) false;
 }
 
 -- the own vertex of a place

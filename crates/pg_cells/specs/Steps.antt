@@ -2,13 +2,13 @@
 -- Source: the Parallel Boost Graph Library's distributed property maps.
 use Rattle.std.specs.Prelude.{◌≡◌, ◌⊎◌, ℕ, Bool, true, false, not, List, Option, Some, None, length, replicate, slice_get, slice_index, slice_index_or, slice_set, if◌then◌else◌}
 use Rattle.pg_adj.specs.declared.arcs.Ghost.{Ghost}
-use Rattle.pg_cells.specs.declared.refreshes.Due.{Due}
+use Rattle.pg_cells.specs.declared.refreshes.PendingRefresh.{PendingRefresh}
 use Rattle.pg_cells.specs.declared.bodies.CellBody.{CellBody}
 use Rattle.pg_cells.specs.declared.bodies.CellBody.TheVariants.{Put as PutBody, Refresh}
 use Rattle.pg_cells.specs.declared.flags.Flags.{Flags}
 use Rattle.pg_cells.specs.declared.phases.Phase.{Phase}
 use Rattle.pg_cells.specs.declared.phases.Phase.TheVariants.{Filling, Closing, Refreshing}
-use Rattle.pg_cells.specs.States.{CellState, IsOwn, IsGhost, NothingLeft, dues, started, emptied}
+use Rattle.pg_cells.specs.States.{CellState, IsOwn, IsGhost, NothingLeft, refreshes_of, started, emptied}
 
 pub data Event : Type 0 where
   -- a value was put to a vertex
@@ -47,12 +47,12 @@ pub record SendsNoted (s : CellState) (to : ℕ) (body : CellBody) (t : CellStat
 -- In phase Refreshing the value of an own cell goes to one of its holders.
 pub record SendsRefresh (s : CellState) (to : ℕ) (body : CellBody) (t : CellState) : Type 0 where
   pub entry : ℕ
-  pub due : Due
+  pub pending : PendingRefresh
   pub refreshing : s.phase ≡ Refreshing
-  pub there : slice_get (dues s.part) entry ≡ Some due
+  pub there : slice_get (refreshes_of s.part) entry ≡ Some pending
   pub unsent : slice_get s.unsent entry ≡ Some true
-  pub rank : to ≡ due.holder.rank.0
-  pub body_is : body ≡ Refresh due.holder.slot (slice_index s.own due.place)
+  pub rank : to ≡ pending.holder.rank.0
+  pub body_is : body ≡ Refresh pending.holder.slot (slice_index s.own pending.place)
   pub after : t ≡ record s { unsent = slice_set s.unsent entry false }
 
 abbrev pub Sends : CellState → ℕ → CellBody → CellState → Type 0
@@ -107,7 +107,7 @@ module _ (join : ℕ → ℕ → ℕ) (start : ℕ → ℕ) where
   abbrev pub after_round : Phase → CellState → CellState
   after_round Filling s = s
   after_round Closing s = if s.flags.backward
-      then record s { phase = Refreshing; unsent = replicate (length (dues s.part)) true }
+      then record s { phase = Refreshing; unsent = replicate (length (refreshes_of s.part)) true }
       else record s { phase = Filling; ghosts = ghosts_after s }
   after_round Refreshing s = record s { phase = Filling }
 

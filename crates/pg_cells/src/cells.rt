@@ -1,8 +1,8 @@
 ghost use Rattle.std.specs.Prelude.{◌≡◌, ℕ, ◌<◌, false, true, [], All, None, length, slice_index_or, is_some};
 ghost use Rattle.pg_adj.specs.Portions.{IsForeign};
-ghost use Rattle.pg_cells.specs.States.{dues};
+ghost use Rattle.pg_cells.specs.States.{refreshes_of};
 
-use crate::debts::Debts;
+use crate::pending_puts::PendingPuts;
 use crate::places::Places;
 use crate::refreshes::Refreshes;
 use crate::slots::Slots;
@@ -27,20 +27,20 @@ pub struct Cells<R> {
     pub(crate) own: Vec<u64>,
     // None where the ghost was emptied.
     pub(crate) ghosts: Vec<Option<u64>>,
-    pub(crate) debts: Debts,
+    pub(crate) pending_puts: PendingPuts,
     pub(crate) refreshes: Refreshes,
     pub(crate) part: Snapshot<Part>,
     ghost vertices: { places.vertices.items ≡ part.value.vertices },
     ghost held: { slots.held.items ≡ part.value.ghosts },
     ghost homes: { All (λ g. IsForeign part.value g.home.0) slots.held.items },
-    ghost holders: { All (λ due. IsForeign part.value due.holder.rank.0) refreshes.dues.items },
-    ghost due_places: { All (λ due. due.place < length own.items) refreshes.dues.items },
-    ghost dues: { refreshes.dues.items ≡ dues part.value },
+    ghost holders: { All (λ pending. IsForeign part.value pending.holder.rank.0) refreshes.entries.items },
+    ghost pending_places: { All (λ pending. pending.place < length own.items) refreshes.entries.items },
+    ghost entries: { refreshes.entries.items ≡ refreshes_of part.value },
     ghost own_each: { length own.items ≡ length part.value.vertices },
     ghost ghosts_each: { length ghosts.items ≡ length slots.held.items },
-    ghost owed_each: { flags.forward ≡ true → length debts.owed.items ≡ length slots.held.items },
-    ghost owed_none: { flags.forward ≡ false → debts.owed.items ≡ [] },
-    ghost noted_each: { flags.flush ≡ true → length debts.noted.items ≡ length slots.held.items },
-    ghost noted_none: { flags.flush ≡ false → debts.noted.items ≡ [] },
-    ghost noted_values: { (slot : ℕ) → slice_index_or debts.noted.items slot false ≡ true → is_some (slice_index_or ghosts.items slot None) ≡ true },
+    ghost owed_each: { flags.forward ≡ true → length pending_puts.owed.items ≡ length slots.held.items },
+    ghost owed_none: { flags.forward ≡ false → pending_puts.owed.items ≡ [] },
+    ghost noted_each: { flags.flush ≡ true → length pending_puts.noted.items ≡ length slots.held.items },
+    ghost noted_none: { flags.flush ≡ false → pending_puts.noted.items ≡ [] },
+    ghost noted_values: { (slot : ℕ) → slice_index_or pending_puts.noted.items slot false ≡ true → is_some (slice_index_or ghosts.items slot None) ≡ true },
 }

@@ -4,10 +4,11 @@
 
 mod bodies;
 mod cells;
-mod debts;
-mod errands;
 mod flags;
+pub mod laws;
 mod maps;
+mod outgoing;
+mod pending_puts;
 mod phases;
 mod places;
 mod refreshes;

@@ -7,7 +7,7 @@ ghost use Rattle.pg_cells.specs.Freshness.{BackwardRefreshes, ForwardJoins};
 ghost use Rattle.pg_cells.specs.declared.bodies.CellBody.TheVariants.{Refresh};
 ghost use Rattle.pg_cells.specs.declared.phases.Phase.TheVariants.{Filling};
 
-use crate::debts::Debts;
+use crate::pending_puts::PendingPuts;
 use crate::places::Places;
 use crate::refreshes::Refreshes;
 use crate::slots::Slots;
@@ -165,11 +165,11 @@ impl<R: Resolver> Cells<R> {
         let at = slot as usize;
         self.ghosts[at] = Some(self.joined(self.ghosts[at], x));
         if self.flags.forward {
-            let owed = self.joined(self.debts.owed_for(slot), x);
-            self.debts.owe(slot, owed);
+            let owed = self.joined(self.pending_puts.owed_for(slot), x);
+            self.pending_puts.owe(slot, owed);
         }
         if self.flags.flush {
-            self.debts.note(slot);
+            self.pending_puts.note(slot);
         }
     }
 
@@ -229,7 +229,7 @@ fn cells_of<R: Resolver>(
         places: Places::of_part(alloc, part)?,
         own: own_starts(alloc, part, &resolver)?,
         ghosts: ghost_starts(alloc, held, &resolver)?,
-        debts: Debts::new(alloc, puts, notes)?,
+        pending_puts: PendingPuts::new(alloc, puts, notes)?,
         slots: Slots::of_part(alloc, part)?,
         refreshes: Refreshes::of_part(alloc, part)?,
         part: Snapshot::of(part),

@@ -1,13 +1,13 @@
 ghost use Rattle.std.specs.Prelude.{◌≡◌, ◌+◌, ◌<◌, ◌≤◌, ◌++◌, All, IfOk, IfSome, None, OnOk, length, map, min};
 ghost use Rattle.pg_adj.specs.Portions.{IsForeign};
-ghost use Rattle.pg_cells.specs.States.{dues};
+ghost use Rattle.pg_cells.specs.States.{refreshes_of};
 
 use pg_adj::{Holder, Part};
 use std::alloc::{AllocError, Global};
 
 /// An own cell goes to one of its holders.
 #[derive(Clone, Copy, Debug, PartialEq, Eq)]
-pub struct Due {
+pub struct PendingRefresh {
     /// The place of the cell.
     pub place: u32,
     /// The holder.
@@ -18,49 +18,49 @@ pub struct Due {
 #[derive(Drop)]
 pub struct Refreshes {
     /// Every own cell with each of its holders.
-    pub dues: Vec<Due>,
+    pub entries: Vec<PendingRefresh>,
     /// Those from here on are yet to be sent.
     pub next: usize,
-    ghost within: { next ≤ length dues.items },
+    ghost within: { next ≤ length entries.items },
 }
 
 impl Refreshes {
     /// The own cells of a part with their holders, none of them to be sent.
     pub fn of_part(alloc: Global, part: &Part) -> Result<Refreshes, AllocError>
-        ensures dues { IfOk result (λ refreshes. refreshes.dues.items ≡ dues part.now) }
-        ensures sent { IfOk result (λ refreshes. refreshes.next ≡ length refreshes.dues.items) }
-        ensures foreign { IfOk result (λ refreshes. All (λ due. IsForeign part.now due.holder.rank.0) refreshes.dues.items) }
-        ensures places { IfOk result (λ refreshes. All (λ due. due.place < length part.now.vertices) refreshes.dues.items) }
+        ensures entries { IfOk result (λ refreshes. refreshes.entries.items ≡ refreshes_of part.now) }
+        ensures sent { IfOk result (λ refreshes. refreshes.next ≡ length refreshes.entries.items) }
+        ensures foreign { IfOk result (λ refreshes. All (λ pending. IsForeign part.now pending.holder.rank.0) refreshes.entries.items) }
+        ensures places { IfOk result (λ refreshes. All (λ pending. pending.place < length part.now.vertices) refreshes.entries.items) }
     {
-        let mut dues = Vec::with_capacity(alloc, due_count(part))?;
+        let mut entries = Vec::with_capacity(alloc, refresh_count(part))?;
         for place in 0..part.count() {
-            push_dues(place, part.holders(place), &mut dues)?;
+            push_refreshes(place, part.holders(place), &mut entries)?;
         }
-        let next = dues.len();
-        Ok(Refreshes { dues, next })
+        let next = entries.len();
+        Ok(Refreshes { entries, next })
     }
 
     /// Every own cell is to be sent to each of its holders.
     pub fn begin(&mut self)
-        ensures dues { self.new.dues ≡ self.old.dues }
+        ensures entries { self.new.entries ≡ self.old.entries }
         ensures next { self.new.next ≡ 0 }
     {
         self.next = 0;
     }
 
-    /// The entry of the due that is sent next, if one is yet to be sent.
+    /// The entry of the refresh that is sent next, if one is yet to be sent.
     pub fn next(&self) -> Option<usize>
         ensures next { IfSome result (λ entry. entry ≡ self.now.next) }
-        ensures within { IfSome result (λ entry. entry < length self.now.dues.items) }
-        ensures none { result ≡ None → self.now.next ≡ length self.now.dues.items }
+        ensures within { IfSome result (λ entry. entry < length self.now.entries.items) }
+        ensures none { result ≡ None → self.now.next ≡ length self.now.entries.items }
     {
-        (self.next < self.dues.len()).then_some(self.next)
+        (self.next < self.entries.len()).then_some(self.next)
     }
 
-    /// The due that `next` answers was sent.
+    /// The refresh that `next` answers was sent.
     pub fn sent(&mut self)
-        requires { self.old.next < length self.old.dues.items }
-        ensures dues { self.new.dues ≡ self.old.dues }
+        requires { self.old.next < length self.old.entries.items }
+        ensures entries { self.new.entries ≡ self.old.entries }
         ensures next { self.new.next ≡ self.old.next + 1 }
     {
         self.next += 1;
@@ -68,8 +68,8 @@ impl Refreshes {
 }
 
 // How many holders the own cells of a part have together.
-fn due_count(part: &Part) -> usize
-    ensures { result ≡ min (length (dues part.now)) usize.MAX }
+fn refresh_count(part: &Part) -> usize
+    ensures { result ≡ min (length (refreshes_of part.now)) usize.MAX }
 {
     let mut count: usize = 0;
     for place in 0..part.count() {
@@ -79,11 +79,15 @@ fn due_count(part: &Part) -> usize
 }
 
 // Appends the cell of a place with each of its holders.
-fn push_dues(place: u32, holders: &[Holder], dues: &mut Vec<Due>) -> Result<(), AllocError>
-    ensures { OnOk result (dues.new.items ≡ dues.old.items ++ map (λ h. record { place = place; holder = h }) holders.now) }
+fn push_refreshes(
+    place: u32,
+    holders: &[Holder],
+    entries: &mut Vec<PendingRefresh>,
+) -> Result<(), AllocError>
+    ensures { OnOk result (entries.new.items ≡ entries.old.items ++ map (λ h. record { place = place; holder = h }) holders.now) }
 {
     for holder in holders {
-        dues.push(Due {
+        entries.push(PendingRefresh {
             place,
             holder: *holder,
         })?;

@@ -4,27 +4,27 @@ ghost use Rattle.pg_cells.specs.States.{NothingLeft};
 ghost use Rattle.pg_cells.specs.Steps.{CellsStep, Sends};
 ghost use Rattle.pg_cells.specs.Steps.Event.{sent};
 ghost use Rattle.pg_cells.specs.Shown.{state_of};
-ghost use Rattle.pg_cells.specs.Errands.{IsNext, after_errand};
+ghost use Rattle.pg_cells.specs.NextSends.{IsNext, after_send};
 ghost use Rattle.pg_cells.specs.declared.bodies.CellBody.{CellBody};
-ghost use Rattle.pg_cells.specs.declared.errands.Errand.TheVariants.{Pay, Renew};
+ghost use Rattle.pg_cells.specs.declared.outgoing.NextSend.TheVariants.{PutOf, RefreshOf};
 ghost use Rattle.pg_cells.specs.declared.phases.Phase.TheVariants.{Closing, Refreshing};
 ghost use Rattle.pg_group.specs.declared.messages.Body.TheVariants.{Item};
 ghost use Rattle.pg_group.specs.Ranked.{IsOther, append_at};
 ghost use Rattle.pg_group.specs.Supersteps.{OnMore, OnIdle, OnBlocked, AreUnmarked};
 
-use crate::errands::{Errand, Letter};
+use crate::outgoing::{NextSend, Outgoing};
 use crate::{CellBody, Cells, Phase, Resolver};
 use pg_group::{Outbox, Worked};
 
 impl<R: Resolver> Cells<R> {
     /// Sends one body, if one is left to be sent in this phase: a put that is owed; in phase Closing the value of a
-    /// noted ghost; in phase Refreshing the value of an own cell to one of its holders. More comes where one was sent,
-    /// Idle where none is left, and Blocked where the lane was full; the map stays then.
+    /// noted ghost; in phase Refreshing the value of an own cell to one of its holders. More comes where one was sent, to
+    /// another rank, Idle where none is left, and Blocked where the lane was full; the map stays then.
     pub fn work<O: Outbox<CellBody>>(&mut self, out: &mut O) -> Worked
         requires own { O.own out.old ≡ self.old.part.value.rank }
         requires size { O.size out.old ≡ self.old.part.value.ranks }
         requires unmarked { AreUnmarked (O.marks_sent out.old) }
-        ensures more { OnMore result ((to : ℕ) × (body : CellBody) × (O.sent out.new ≡ append_at (O.sent out.old) to (Item body))
+        ensures more { OnMore result ((to : ℕ) × (body : CellBody) × IsOther (O.own out.old) (O.size out.old) to × (O.sent out.new ≡ append_at (O.sent out.old) to (Item body))
             × CellsStep (R.join self.old.resolver) (R.start self.old.resolver) (state_of self.old) (sent to body) (state_of self.new)) }
         ensures idle { OnIdle result (NothingLeft (state_of self.new)) }
         ensures idle_stays { OnIdle result (self.new ≡ self.old) }
@@ -41,90 +41,94 @@ impl<R: Resolver> Cells<R> {
         ensures out_rest { O.SameRest out.old out.new }
         ensures out_later { O.Later out.old out.new }
     {
-        match self.next_errand() {
+        match self.next_send() {
             None => Worked::Idle,
-            Some(errand) => {
-                let letter = self.letter(errand);
-                match out.send(letter.to, letter.body) {
+            Some(next_send) => {
+                let outgoing = self.outgoing(next_send);
+                match out.send(outgoing.to, outgoing.body) {
                     Ok(()) => {
-                        self.done(errand);
+                        self.done(next_send);
                         Worked::More
                     }
-                    Err(_) => Worked::Blocked { to: letter.to },
+                    Err(_) => Worked::Blocked { to: outgoing.to },
                 }
             }
         }
     }
 
     // What is sent next, if anything is left to be sent in this phase.
-    fn next_errand(&self) -> Option<Errand>
+    fn next_send(&self) -> Option<NextSend>
         ensures next { IfSome result (IsNext self.now) }
         ensures none { result ≡ None → NothingLeft (state_of self.now) }
     {
-        match self.next_payment() {
-            Some(errand) => Some(errand),
-            None => self.next_renewal(),
+        match self.next_put() {
+            Some(next_send) => Some(next_send),
+            None => self.next_refresh(),
         }
     }
 
-    // The next debt, if debts are paid in this phase.
-    fn next_payment(&self) -> Option<Errand>
+    // The next slot with a pending put, if these are sent in this phase.
+    fn next_put(&self) -> Option<NextSend>
         ensures next { IfSome result (IsNext self.now) }
         ensures owed { result ≡ None → All (λ owed. owed ≡ None) (state_of self.now).owed }
         ensures noted { result ≡ None → self.now.phase ≡ Closing → All (λ noted. noted ≡ false) (state_of self.now).noted }
     {
-        if !self.pays_debts() {
+        if !self.sends_puts() {
             return None;
         }
-        match self.debts.next() {
-            Some(slot) => Some(Errand::Pay { slot }),
+        match self.pending_puts.next() {
+            Some(slot) => Some(NextSend::PutOf { slot }),
             None => None,
         }
     }
 
-    // Whether debts are paid in this phase. Puts that are owed are sent in every phase, noted ghosts in Closing.
-    fn pays_debts(&self) -> bool
+    // Whether pending puts are sent in this phase: those that are owed in every phase, noted ghosts in Closing.
+    fn sends_puts(&self) -> bool
         ensures { (result ≡ true) ↔ ((self.now.flags.forward ≡ true) ⊎ (self.now.phase ≡ Closing)) }
     {
         self.flags.forward || self.phase == Phase::Closing
     }
 
-    // The next due, if dues are sent in this phase.
-    fn next_renewal(&self) -> Option<Errand>
+    // The next pending refresh, if refreshes are sent in this phase.
+    fn next_refresh(&self) -> Option<NextSend>
         ensures next { IfSome result (IsNext self.now) }
-        ensures unsent { result ≡ None → self.now.phase ≡ Refreshing → self.now.refreshes.next ≡ length self.now.refreshes.dues.items }
+        ensures unsent { result ≡ None → self.now.phase ≡ Refreshing → self.now.refreshes.next ≡ length self.now.refreshes.entries.items }
     {
         if self.phase != Phase::Refreshing {
             return None;
         }
         match self.refreshes.next() {
-            Some(entry) => Some(Errand::Renew { entry }),
+            Some(entry) => Some(NextSend::RefreshOf { entry }),
             None => None,
         }
     }
 
-    // To whom the next body goes.
-    fn letter(&self, errand: Errand) -> Letter
-        requires { IsNext self.now errand }
+    // What is sent next, and to whom.
+    fn outgoing(&self, next_send: NextSend) -> Outgoing
+        requires { IsNext self.now next_send }
         ensures foreign { IsForeign self.now.part.value result.to.0 }
-        ensures sends { Sends (state_of self.now) result.to.0 result.body (after_errand errand (state_of self.now)) }
+        ensures sends { Sends (state_of self.now) result.to.0 result.body (after_send next_send (state_of self.now)) }
     {
-        match errand {
-            Errand::Pay { slot } => self.payment(slot),
-            Errand::Renew { entry } => self.renewal(entry),
+        match next_send {
+            NextSend::PutOf { slot } => self.put_outgoing(slot),
+            NextSend::RefreshOf { entry } => self.refresh_outgoing(entry),
         }
     }
 
-    // What pays the debt of the slot: the put that is owed, else the value of the ghost.
-    fn payment(&self, slot: u32) -> Letter
-        requires { IsNext self.now (Pay slot) }
+    // The put of the slot: the one that is owed, else the value of the ghost.
+    fn put_outgoing(&self, slot: u32) -> Outgoing
+        requires { IsNext self.now (PutOf slot) }
         ensures foreign { IsForeign self.now.part.value result.to.0 }
-        ensures sends { Sends (state_of self.now) result.to.0 result.body (after_errand (Pay slot) (state_of self.now)) }
+        ensures sends { Sends (state_of self.now) result.to.0 result.body (after_send (PutOf slot) (state_of self.now)) }
     {
         let at = slot as usize;
         let held = self.slots.held[at];
-        let value = self.debts.owed_for(slot).or(self.ghosts[at]).unwrap_or(0);
-        Letter {
+        let value = self
+            .pending_puts
+            .owed_for(slot)
+            .or(self.ghosts[at])
+            .unwrap_or(0);
+        Outgoing {
             to: held.home,
             body: CellBody::Put {
                 place: held.place,
@@ -134,32 +138,32 @@ impl<R: Resolver> Cells<R> {
     }
 
     // The value of an own cell for its holder.
-    fn renewal(&self, entry: usize) -> Letter
-        requires { IsNext self.now (Renew entry) }
+    fn refresh_outgoing(&self, entry: usize) -> Outgoing
+        requires { IsNext self.now (RefreshOf entry) }
         ensures foreign { IsForeign self.now.part.value result.to.0 }
-        ensures sends { Sends (state_of self.now) result.to.0 result.body (after_errand (Renew entry) (state_of self.now)) }
+        ensures sends { Sends (state_of self.now) result.to.0 result.body (after_send (RefreshOf entry) (state_of self.now)) }
     {
-        let due = self.refreshes.dues[entry];
-        Letter {
-            to: due.holder.rank,
+        let pending = self.refreshes.entries[entry];
+        Outgoing {
+            to: pending.holder.rank,
             body: CellBody::Refresh {
-                slot: due.holder.slot,
-                value: self.own[due.place as usize],
+                slot: pending.holder.slot,
+                value: self.own[pending.place as usize],
             },
         }
     }
 
     // The next body was sent.
-    fn done(&mut self, errand: Errand)
-        requires { IsNext self.old errand }
-        ensures state { state_of self.new ≡ after_errand errand (state_of self.old) }
+    fn done(&mut self, next_send: NextSend)
+        requires { IsNext self.old next_send }
+        ensures state { state_of self.new ≡ after_send next_send (state_of self.old) }
         ensures resolver { self.new.resolver ≡ self.old.resolver }
         ensures part { self.new.part ≡ self.old.part }
         ensures phase { self.new.phase ≡ self.old.phase }
     {
-        match errand {
-            Errand::Pay { slot } => self.debts.pay(slot),
-            Errand::Renew { .. } => self.refreshes.sent(),
+        match next_send {
+            NextSend::PutOf { slot } => self.pending_puts.settle(slot),
+            NextSend::RefreshOf { .. } => self.refreshes.sent(),
         }
     }
 }

@@ -629,3 +629,19 @@ fn a_rank_knows_its_own_vertices_and_its_ghosts(rt: HostRuntime) -> Result<(), F
     }
     Ok(())
 }
+
+#[test]
+fn a_map_of_one_rank_has_no_ghosts_and_sends_nothing(rt: HostRuntime) -> Result<(), Fail> {
+    let graph = edge_graph(rt.alloc())?;
+    let flags = Flags::bidirectional();
+    let mut sites = sites::<LeastWins, Lanes>(&(), rt.alloc(), &graph, 1, LeastWins, flags)?;
+    assert_eq!(rt; sites.len(), 1);
+    put(&mut sites, 0, FIRST, 7)?;
+    assert_eq!(rt; send(&mut sites, 0)?, 0);
+    synchronize(&mut sites)?;
+    assert_eq!(rt;
+        firsts(rt.alloc(), &sites)?.as_slice(),
+        [Some(7)].as_slice()
+    );
+    Ok(())
+}

@@ -3,7 +3,9 @@ use Rattle.std.proofs.Common.{◌≡◌, ℕ, ◌+◌, ◌-◌, ◌*◌, ◌/◌
 use Rattle.std.proofs.lemmas.Bool.{cases_lt, lt-ltb, le-ltb}
 use Rattle.std.proofs.lemmas.Nat.{div-mul-add, mod-mul-add, div_below, mod_below, div-add-mod'}
 use Rattle.std.proofs.Math.Nat.{mul-le-mul_right}
+use Rattle.pg_base.specs.declared.TheConstants.{MAX_VERTICES}
 use Rattle.pg_dist.specs.Blocks.{count_of, first_of, in_long, owner_of, place_of}
+use Rattle.pg_dist.specs.Sharing.{IsSharing}
 
 -- the vertices are those of the longer blocks and those of the shorter ones
 parts : (n p q e : ℕ) → n ≡ p * q + e → e < p → n ≡ in_long q e + (p - e) * q
@@ -120,3 +122,25 @@ place_at q e r i = elim (cases_lt r e) as (λ c. i < count_of q e r → place_of
       rw (le-ltb (in_long q e + ((r - e) * q + i)) (in_long q e) (omega arith), taken (in_long q e) ((r - e) * q + i))
       (mod-mul-add (r - e) q i place))
 ]
+
+first_at : (q e r i : ℕ) → 1 ≤ first_of q e r + i
+first_at q e r i = omega arith
+
+ascends_at : (q e r i j : ℕ) → i < j → first_of q e r + i < first_of q e r + j
+ascends_at q e r i j less = omega arith
+
+-- All laws together.
+pub block_laws : (n p q e : ℕ) → n ≤ MAX_VERTICES → n ≡ p * q + e → e < p
+    → IsSharing (record { n = n; ranks = p; owner = owner_of q e; local = place_of q e; count = count_of q e; global = λ r i. first_of q e r + i })
+block_laws n p q e few split below = record {
+  n_within = few;
+  owner_is_rank = λ v first last. owner_below n p q e v split below first last;
+  local_below = λ v first last. place_below n p q e v split below first last;
+  global_of_local = λ v first last. at_place n p q e v split below first last;
+  count_within = λ r rank. count-within n p q e r split below rank;
+  global_first = λ r i rank place. first_at q e r i;
+  global_last = λ r i rank place. within n p q e r i split below rank place;
+  owner_of_global = λ r i rank place. owner_at q e r i place;
+  local_of_global = λ r i rank place. place_at q e r i place;
+  global_ascends = λ r i j rank order place. ascends_at q e r i j order;
+}

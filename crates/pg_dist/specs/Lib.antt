@@ -1,3 +1,4 @@
+pub mod Sharing
 pub mod Blocks
 pub mod BlockLaws
 pub mod Owners

@@ -3,8 +3,10 @@ use Rattle.std.proofs.Common.{◌≡◌, ℕ, ◌+◌, ◌-◌, ◌<◌, ◌≤�
 use Rattle.std.proofs.lemmas.Bool.{cases_order, cases_eq, eq-eqb, ne_eqb}
 use Rattle.std.proofs.lemmas.List.{take-take}
 use Rattle.std.proofs.lemmas.List.Sums.{sum_by-cons, count_by-le-length, sum_by-take-le, count_by_more_yes}
+use Rattle.pg_base.specs.declared.TheConstants.{MAX_VERTICES}
+use Rattle.pg_dist.specs.Sharing.{IsSharing}
 use Rattle.pg_dist.specs.Tables.{AreRanks}
-use Rattle.pg_dist.specs.Owners.{owner_in, count_in, place_in, vertices_from, vertex_in}
+use Rattle.pg_dist.specs.Owners.{owner_in, count_in, place_in, vertices_from, vertex_in, listed_sharing}
 
 count_in-same : (o r : ℕ) (os : List ℕ) → o ≡ r → count_in (o ∷ os) r ≡ 1 + count_in os r
 count_in-same o r os same = sum_by-cons (λ x. cond (eqb x r) 1 0) o os ∙ rw (eq-eqb o r same)
@@ -162,3 +164,18 @@ vertex_in-ascends os r i j order below =
     let s = stands os 1 r i (omega arith) in
     let t = stands os 1 r j below in
     omega (arith, s.1.vertex, t.1.vertex, stand_in_order os r i j s.0 t.0 s.1 t.1 order)
+
+-- All laws together.
+pub listed_laws : (os : List ℕ) (ranks : ℕ) → length os ≤ MAX_VERTICES → AreRanks os ranks → IsSharing (listed_sharing os ranks)
+listed_laws os ranks few are = record {
+  n_within = few;
+  owner_is_rank = λ v first last. owner_in-below os ranks v are first last;
+  local_below = λ v first last. place_in-below os v first last;
+  global_of_local = λ v first last. vertex_in_place os v first last;
+  count_within = λ r rank. count_in-within os r;
+  global_first = λ r i rank place. vertex_in-first os r i place;
+  global_last = λ r i rank place. vertex_in-last os r i place;
+  owner_of_global = λ r i rank place. owner_in-vertex_in os r i place;
+  local_of_global = λ r i rank place. place_in-vertex_in os r i place;
+  global_ascends = λ r i j rank order place. vertex_in-ascends os r i j order place;
+}

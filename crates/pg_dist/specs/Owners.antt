@@ -1,5 +1,6 @@
 -- What a list of owners says, whose entry v - 1 is the rank that owns vertex v.
-use Rattle.std.specs.Prelude.{ℕ, ◌+◌, ◌-◌, ◌==◌, List, [], ◌∷◌, take, slice_index, count_by, if◌then◌else◌}
+use Rattle.std.specs.Prelude.{ℕ, ◌+◌, ◌-◌, ◌==◌, List, [], ◌∷◌, length, take, slice_index, count_by, if◌then◌else◌}
+use Rattle.pg_dist.specs.Sharing.{Sharing}
 
 -- the rank that owns vertex v
 abbrev pub owner_in : List ℕ → ℕ → ℕ
@@ -22,3 +23,14 @@ vertices_from v (o ∷ owners) r =
 -- the vertex of rank r at place i
 abbrev pub vertex_in : List ℕ → ℕ → ℕ → ℕ
 vertex_in owners r i = slice_index (vertices_from 1 owners r) i
+
+-- what the list says, all together
+abbrev pub listed_sharing : List ℕ → ℕ → Sharing
+listed_sharing owners ranks = record {
+  n = length owners;
+  ranks = ranks;
+  owner = owner_in owners;
+  local = place_in owners;
+  count = count_in owners;
+  global = vertex_in owners;
+}

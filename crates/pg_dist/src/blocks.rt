@@ -25,12 +25,12 @@ impl Block {
     /// The blocks of `n` vertices over these ranks. Takes no memory.
     pub fn new(n: u32, ranks: Ranks) -> Block
         requires { n ≤ MAX_VERTICES }
-        ensures vertices { ⟦<Block as Distribution>⟧.n result ≡ n }
-        ensures ranks { ⟦<Block as Distribution>⟧.ranks result ≡ ranks }
+        ensures vertices { (⟦<Block as Distribution>⟧.sharing result).n ≡ n }
+        ensures ranks { (⟦<Block as Distribution>⟧.sharing result).ranks ≡ ranks }
         ensures counts { (r : ℕ) → r < ranks
-            → ⟦<Block as Distribution>⟧.count result r ≡ count_of (n / ranks) (n % ranks) r }
+            → (⟦<Block as Distribution>⟧.sharing result).count r ≡ count_of (n / ranks) (n % ranks) r }
         ensures blocks { (r i : ℕ) → r < ranks → i < count_of (n / ranks) (n % ranks) r
-            → ⟦<Block as Distribution>⟧.global result r i ≡ first_of (n / ranks) (n % ranks) r + i }
+            → (⟦<Block as Distribution>⟧.sharing result).global r i ≡ first_of (n / ranks) (n % ranks) r + i }
     {
         let ranks_count = ranks.count();
         Block {
@@ -50,21 +50,17 @@ impl Block {
 }
 
 impl Distribution for Block {
-    ghost use Rattle.std.proofs.Common.{rules};
     ghost use Rattle.pg_dist.specs.Blocks.{owner_of, place_of};
-    ghost use Rattle.pg_dist.specs.BlockLaws.{owner_below, place_below, at_place, count-within, within, owner_at, place_at};
+    ghost use Rattle.pg_dist.specs.BlockLaws.{block_laws};
 
-    ghost n = { λ b. b.n };
-
-    ghost ranks = { λ b. b.ranks };
-
-    ghost owner = { λ b v. owner_of b.share b.extra v };
-
-    ghost local = { λ b v. place_of b.share b.extra v };
-
-    ghost count = { λ b r. count_of b.share b.extra r };
-
-    ghost global = { λ b r i. first_of b.share b.extra r + i };
+    ghost sharing = { λ b. record {
+      n = b.n;
+      ranks = b.ranks;
+      owner = owner_of b.share b.extra;
+      local = place_of b.share b.extra;
+      count = count_of b.share b.extra;
+      global = λ r i. first_of b.share b.extra r + i;
+    } };
 
     fn n(&self) -> u32 {
         self.n
@@ -106,27 +102,5 @@ impl Distribution for Block {
         Vertex(r.0 * self.share + r.0.min(self.extra) + 1 + i)
     }
 
-    ghost n_within = { λ b. b.within };
-
-    ghost owner_is_rank = { λ b v first last.
-        owner_below b.n b.ranks b.share b.extra v b.split b.extra_below first last };
-
-    ghost local_below = { λ b v first last.
-        place_below b.n b.ranks b.share b.extra v b.split b.extra_below first last };
-
-    ghost global_of_local = { λ b v first last.
-        at_place b.n b.ranks b.share b.extra v b.split b.extra_below first last };
-
-    ghost count_within = { λ b r rank. count-within b.n b.ranks b.share b.extra r b.split b.extra_below rank };
-
-    ghost global_first = { Prim.search rules };
-
-    ghost global_last = { λ b r i rank place.
-        within b.n b.ranks b.share b.extra r i b.split b.extra_below rank place };
-
-    ghost owner_of_global = { λ b r i rank place. owner_at b.share b.extra r i place };
-
-    ghost local_of_global = { λ b r i rank place. place_at b.share b.extra r i place };
-
-    ghost global_ascends = { Prim.search rules };
+    ghost laws = { λ b. block_laws b.n b.ranks b.share b.extra b.within b.split b.extra_below };
 }

@@ -26,14 +26,14 @@ pub struct Listed {
 
 impl Listed {
     /// The distribution in which entry v - 1 of `parts` is the number of the rank that owns vertex v. Takes
-    /// memory and time linear in the list and the ranks. `Err` only where an allocation failed.
+    /// memory and time linear in the list and the ranks. `Err` is want of memory.
     pub fn new(alloc: Global, parts: Vec<u32>, ranks: Ranks) -> Result<Listed, OutOfMemory>
         requires are_ranks { All (λ owner. owner < ranks) parts.items }
         requires few { vec_len parts ≤ MAX_VERTICES }
-        ensures vertices { IfOk result (λ dist. ⟦<Listed as Distribution>⟧.n dist ≡ vec_len parts) }
-        ensures ranks { IfOk result (λ dist. ⟦<Listed as Distribution>⟧.ranks dist ≡ ranks) }
+        ensures vertices { IfOk result (λ dist. (⟦<Listed as Distribution>⟧.sharing dist).n ≡ vec_len parts) }
+        ensures ranks { IfOk result (λ dist. (⟦<Listed as Distribution>⟧.sharing dist).ranks ≡ ranks) }
         ensures owners { IfOk result (λ dist. (v : ℕ) → 1 ≤ v → v ≤ vec_len parts
-            → ⟦<Listed as Distribution>⟧.owner dist v ≡ slice_index parts.items (v - 1)) }
+            → (⟦<Listed as Distribution>⟧.sharing dist).owner v ≡ slice_index parts.items (v - 1)) }
     {
         let tables = tables_of(alloc, &parts, ranks.count()).map_err(|_| OutOfMemory)?;
         Ok(Listed { ranks, tables })
@@ -41,20 +41,10 @@ impl Listed {
 }
 
 impl Distribution for Listed {
-    ghost use Rattle.pg_dist.specs.Owners.{owner_in, count_in, place_in, vertex_in};
-    ghost use Rattle.pg_dist.specs.OwnerLaws.{place_in-below, vertex_in_place, count_in-within, vertex_in-first, vertex_in-last, owner_in-vertex_in, place_in-vertex_in, vertex_in-ascends, owner_in-below};
+    ghost use Rattle.pg_dist.specs.Owners.{listed_sharing};
+    ghost use Rattle.pg_dist.specs.OwnerLaws.{listed_laws};
 
-    ghost n = { λ d. length (owners_of d.tables.seats.items) };
-
-    ghost ranks = { λ d. d.ranks };
-
-    ghost owner = { λ d v. owner_in (owners_of d.tables.seats.items) v };
-
-    ghost local = { λ d v. place_in (owners_of d.tables.seats.items) v };
-
-    ghost count = { λ d r. count_in (owners_of d.tables.seats.items) r };
-
-    ghost global = { λ d r i. vertex_in (owners_of d.tables.seats.items) r i };
+    ghost sharing = { λ d. listed_sharing (owners_of d.tables.seats.items) d.ranks };
 
     fn n(&self) -> u32 {
         self.tables.seats.len() as u32
@@ -81,23 +71,5 @@ impl Distribution for Listed {
         Vertex(self.tables.vertices[slot as usize])
     }
 
-    ghost n_within = { λ d. d.few_owners };
-
-    ghost owner_is_rank = { λ d v first last. owner_in-below (owners_of d.tables.seats.items) d.ranks v d.are_ranks first last };
-
-    ghost local_below = { λ d v first last. place_in-below (owners_of d.tables.seats.items) v first last };
-
-    ghost global_of_local = { λ d v first last. vertex_in_place (owners_of d.tables.seats.items) v first last };
-
-    ghost count_within = { λ d r rank. count_in-within (owners_of d.tables.seats.items) r };
-
-    ghost global_first = { λ d r i rank place. vertex_in-first (owners_of d.tables.seats.items) r i place };
-
-    ghost global_last = { λ d r i rank place. vertex_in-last (owners_of d.tables.seats.items) r i place };
-
-    ghost owner_of_global = { λ d r i rank place. owner_in-vertex_in (owners_of d.tables.seats.items) r i place };
-
-    ghost local_of_global = { λ d r i rank place. place_in-vertex_in (owners_of d.tables.seats.items) r i place };
-
-    ghost global_ascends = { λ d r i j rank order place. vertex_in-ascends (owners_of d.tables.seats.items) r i j order place };
+    ghost laws = { λ d. listed_laws (owners_of d.tables.seats.items) d.ranks d.few_owners d.are_ranks };
 }

@@ -7,7 +7,7 @@ use std::test::Fail;
 // The vertex that stands at the owner and the place of `v`: by the laws, `v` itself.
 fn there_and_back<D: Distribution>(dist: &D, v: Vertex) -> Vertex
     requires first { 1 ≤ v.0 }
-    requires last { v.0 ≤ D.n dist.now }
+    requires last { v.0 ≤ (D.sharing dist.now).n }
     ensures { result ≡ v }
 {
     dist.global(dist.owner(v), dist.local(v))

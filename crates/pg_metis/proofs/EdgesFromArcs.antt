@@ -1,5 +1,5 @@
 -- Arcs of which each has an equal mirror are the two directions of edges in order.
-use Rattle.std.proofs.Common.{◌≡◌, ◌≢◌, ℕ, ◌<◌, min, max, List, [], ◌∷◌, refl, sym, ap, subst, inl, inr, ◌⊎◌, ⊎_elim, arith, All, AllPairs, Contains}
+use Rattle.std.proofs.Common.{◌≤◌, ◌≡◌, ◌≢◌, ℕ, ◌<◌, min, max, List, [], ◌∷◌, refl, sym, ap, subst, inl, inr, ◌⊎◌, ⊎_elim, arith, All, AllPairs, Contains}
 use Rattle.std.proofs.lemmas.Bool.{cases_lt, cases_order}
 use Rattle.std.proofs.lemmas.List.Elements.{All-cons, All-contains, All-contains_itself, All-head, All-nil, All-tail, All-weaker}
 use Rattle.pg_base.specs.declared.edges.Edge.{Edge}
@@ -160,6 +160,7 @@ edges_from_arcs n arcs named mirrored =
     let is = found.1 in
     let named_at : (a : Arc) → Contains arcs a → IsNamed n a = λ a c. All-contains (IsNamed n) arcs a named.within c in
     let within : All (IsEdge n) edges = All-weaker (Contains edges) (IsEdge n) (λ e c. let of = is.are e c in subst (IsEdge n) of.3 (rising_is n of.0 (named_at of.0 of.1) of.2)) edges (All-contains_itself edges) in
+    let positive : All (λ e. 1 ≤ e.w) edges = All-weaker (Contains edges) (λ e. 1 ≤ e.w) (λ e c. let of = is.are e c in subst (λ (x : Edge). 1 ≤ x.w) of.3 (named_at of.0 of.1).weight) edges (All-contains_itself edges) in
     let each : All (λ a. Contains edges (edge_along a)) arcs = All-weaker (Contains arcs) (λ a. Contains edges (edge_along a)) (λ a c. elim (cases_lt a.from a.to) [
       | inl rises ↦ subst (Contains edges) (sym (along_rising a rises)) (is.each a c rises)
       | inr not ↦ (let other = (named_at a c).other in let falls : a.to < a.from = omega arith in subst (Contains edges) (sym (along_falling a falls)) (is.each (turned a) (mirrored a c) falls))
@@ -168,6 +169,7 @@ edges_from_arcs n arcs named mirrored =
       edges,
       record {
         within = within;
+        positive = positive;
         ascending = is.ascending;
         each = each;
         directions = directions;
@@ -176,4 +178,4 @@ edges_from_arcs n arcs named mirrored =
     )
   where
     rising_is : (n : ℕ) (a : Arc) → IsNamed n a → a.from < a.to → IsEdge n (rising a)
-    rising_is n a is rises = record { first = is.from_first; ascends = rises; last = is.to_last; weight = is.weight }
+    rising_is n a is rises = record { first = is.from_first; ascends = rises; last = is.to_last }

@@ -57,7 +57,7 @@ file_from_edges text h header content edges is header_none header_is none count 
     let lines = lines_are_of header rows edges (lines_take header 1 header.n content.lines whole.lines) long are in
     record {
       small = small_content text fits;
-      graph = record { vertices = limits.0; size = omega arith; within = are.within; ascending = are.ascending };
+      graph = record { vertices = limits.0; size = omega arith; within = are.within; ascending = are.ascending; positive = are.positive };
       header = h.bytes;
       rest = bytes_of content.lines;
       content = text_lines text h content is fits;

@@ -95,6 +95,7 @@ is-graph n m arcs edges few_vertices few_edges count are = record {
   size = let twice = are.count in omega arith;
   within = are.within;
   ascending = are.ascending;
+  positive = are.positive;
 }
 
 file-of : (header : Header) (at : ℕ) (lines : List NumberedLine) (text : List ℕ) (g : Graph) → HasLines header at lines text → AreLinesOf header lines g → FileOf text g

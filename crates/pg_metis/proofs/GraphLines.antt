@@ -23,17 +23,18 @@ use Rattle.pg_metis.proofs.LineParts.{line_part}
 use Rattle.pg_metis.proofs.MirrorFaults.{ArePaired}
 use Rattle.pg_metis.proofs.ContentLemmas.{lines_take}
 
-edge_names : (n : ℕ) (edges : List Edge) → All (IsEdge n) edges → (a : Arc) → Contains (arcs_of edges) a → IsNamed n a
-edge_names n edges within a c =
+edge_names : (n : ℕ) (edges : List Edge) → All (IsEdge n) edges → All (λ e. 1 ≤ e.w) edges → (a : Arc) → Contains (arcs_of edges) a → IsNamed n a
+edge_names n edges within positive a c =
     let found = edge_of_arc edges a c in
     let e = found.0 in
     let is = All-contains (IsEdge n) edges e within found.1 in
     let first = is.first in
     let ascends = is.ascends in
     let last = is.last in
+    let weight = All-contains (λ (x : Edge). 1 ≤ x.w) edges e positive found.1 in
     ⊎_elim
-    (λ same. subst (IsNamed n) (sym same) (record { from_first = first; from_last = omega arith; to_first = omega arith; to_last = last; other = λ e. omega arith; weight = is.weight }))
-    (λ same. subst (IsNamed n) (sym same) (record { from_first = omega arith; from_last = last; to_first = first; to_last = omega arith; other = λ e. omega arith; weight = is.weight }))
+    (λ same. subst (IsNamed n) (sym same) (record { from_first = first; from_last = omega arith; to_first = omega arith; to_last = last; other = λ e. omega arith; weight = weight }))
+    (λ same. subst (IsNamed n) (sym same) (record { from_first = omega arith; from_last = last; to_first = first; to_last = omega arith; other = λ e. omega arith; weight = weight }))
     found.2
 
 row_from : (n v : ℕ) (earlier : List ℕ) (arcs : List Arc) → All (IsNamed n) arcs → All (λ a. a.from ≡ v) arcs → AllPairs (λ a b. a.to ≢ b.to) arcs → All (λ a. Contains earlier a.to → ⊥) arcs → IsRow n v earlier arcs
@@ -61,7 +62,7 @@ row_of_line format g v line graph is =
     let part = arcs_from (arcs_of g.edges) v in
     let moved = IsPermutation-sym is.arcs part is.order in
     let leave : All (λ a. a.from ≡ v) part = All-weaker (Contains part) (λ a. a.from ≡ v) (λ a c. ((arcs_from_leave (arcs_of g.edges) v a).0 c).1) part (All-contains_itself part) in
-    let named : All (IsNamed g.n) part = All-weaker (Contains part) (IsNamed g.n) (λ a c. edge_names g.n g.edges graph.within a ((arcs_from_leave (arcs_of g.edges) v a).0 c).0) part (All-contains_itself part) in
+    let named : All (IsNamed g.n) part = All-weaker (Contains part) (IsNamed g.n) (λ a c. edge_names g.n g.edges graph.within graph.positive a ((arcs_from_leave (arcs_of g.edges) v a).0 c).0) part (All-contains_itself part) in
     let differ = AllPairs-filter Differ (λ (a : Arc). a.from == v) (arcs_of g.edges) (arcs_differ g.n g.edges graph.within graph.ascending) in
     let once : AllPairs (λ a b. a.to ≢ b.to) part = λ i j d below within. differ i j d below within (leave i d (omega arith) ∙ sym (leave j d within)) in
     let targets = AllPairs-map (λ (x y : ℕ). x ≢ y) (λ (a : Arc). a.to) part once in

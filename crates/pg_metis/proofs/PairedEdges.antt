@@ -13,7 +13,7 @@ use Rattle.pg_metis.specs.declared.pairing.NamedArc.{NamedArc}
 use Rattle.pg_metis.specs.Pairing.{AreEdgesOf, AreNamed, IsNamed, arcs_named, edge_along}
 use Rattle.pg_metis.proofs.Matching.{same_edge}
 use Rattle.pg_metis.proofs.MirrorLemmas.{all_from_no_vertex}
-use Rattle.pg_metis.proofs.Settled.{edges_are}
+use Rattle.pg_metis.proofs.Settled.{edges_are, edges_positive}
 
 module _ {X : Type 0} where
   tail_apart : (x : X) (xs : List X) → AllPairs (λ y z. y ≢ z) (x ∷ xs) → AllPairs (λ y z. y ≢ z) xs
@@ -126,6 +126,7 @@ module _ (n : ℕ) (arcs : List Arc) (edges : List Edge) (named : AreNamed n arc
   pub are_edges_of : AreEdgesOf n arcs edges
   are_edges_of = record {
     within = edges_are n arcs edges named lower;
+    positive = edges_positive n arcs edges named lower;
     ascending = lower.ascending;
     each = λ k d within. let found = edge_of (get_or arcs k d) (Contains-get_or arcs k d within) in subst (Contains edges) found.3 found.1;
     directions = λ k d within. directions (get_or edges k d) (Contains-get_or edges k d within);

@@ -1,12 +1,14 @@
 -- From line to line of a partition file: what is wrong with the content ahead, and which ranks the lines that were taken give.
-use Rattle.std.proofs.Common.{◌≡◌, ◌≢◌, ℕ, zero, suc, ◌+◌, ◌<◌, ◌≤◌, true, false, nat_lt, Option, Some, None, is_some, MatchOption, List, [], ◌∷◌, ◌++◌, length, map, All, IfSome, Bor, refl, sym, ap, ◌∙◌, arith, length-append}
+use Rattle.std.proofs.Common.{◌≡◌, ◌≢◌, ℕ, zero, suc, ◌+◌, ◌<◌, ◌≤◌, Bool, true, false, nat_lt, Option, Some, None, is_some, MatchOption, List, [], ◌∷◌, ◌++◌, length, map, All, IfSome, Bor, refl, sym, ap, ◌∙◌, arith, length-append}
 use Rattle.std.proofs.lemmas.Bool.Decides.{nat_tests}
 use Rattle.std.proofs.lemmas.List.{map-append}
 use Rattle.std.proofs.lemmas.List.Elements.{All-head, All-tail}
 use Rattle.pg_text.specs.Text.{decimal_value, number, numbers, words}
 use Rattle.pg_metis.specs.declared.parts_faults.PartsKind.{PartsKind}
 use Rattle.pg_metis.specs.declared.parts_faults.PartsKind.TheVariants.{BadNumber, OutOfRange, ExtraText, MissingLines, TooLong}
+use Rattle.pg_metis.specs.declared.parts_faults.PartsLineFault.{PartsLineFault}
 use Rattle.pg_metis.specs.Ahead.{IsPastLimit, Passes, TakesContent}
+use Rattle.pg_metis.specs.LineFaults.{IsPartsLineFault}
 use Rattle.pg_metis.specs.Content.{Content, NumberedLine}
 use Rattle.pg_metis.specs.Parts.{FirstPartsFault, part_fault, part_lines_fault, parts_content_fault, parts_end_fault, surplus_fault}
 use Rattle.pg_metis.specs.PartsReading.{TakesPart, TakesParts}
@@ -141,3 +143,12 @@ takes-more parts part a b z takes one = record {
 pub rest-fault : (ranks wanted more : ℕ) (parts : List ℕ) (a b : Option Content) (fault : Option FirstPartsFault) → wanted ≡ length parts + more → TakesParts parts a b → All (λ part. part < ranks) parts → IfSome b (λ now. parts_content_fault more ranks now ≡ fault) → IfSome a (λ was. parts_content_fault wanted ranks was ≡ fault)
 rest-fault ranks wanted more parts a b fault count takes below rest =
     told-if a b (Passes takes.lines) _ _ takes.told rest (λ was now passes is. parts-on ranks wanted more takes.lines parts was now count passes takes.give below ∙ is)
+
+-- The fault of a vertex's line, or that there is none.
+pub part-refused : (ranks : ℕ) (more : Bool) (number : ℕ) (line : List ℕ) (was now : Content) (fault : PartsLineFault) → TakesContent more number line was now → IsPartsLineFault (part_fault ranks) MissingLines more number line fault → (wanted : ℕ) → 1 ≤ wanted → parts_content_fault wanted ranks was ≡ Some (record { line = fault.line; kind = fault.kind })
+part-refused ranks true number line was now fault takes (at, bad) wanted some = bad-part ranks (record { number = number; bytes = line }) fault.line was now fault.kind takes bad (sym at) wanted some
+part-refused ranks false number line was now fault takes (at, kind) wanted some = rw kind (no-part ranks number fault.line line was now takes at wanted some)
+
+-- A line after those of the vertices that has a word.
+pub surplus-refused : (line : NumberedLine) (was now : Content) (fault : PartsLineFault) → Passes (line ∷ []) was now → words line.bytes ≢ [] → fault.line ≡ line.number → fault.kind ≡ ExtraText → (ranks : ℕ) → parts_content_fault 0 ranks was ≡ Some (record { line = fault.line; kind = fault.kind })
+surplus-refused line was now fault passes some at kind ranks = rw kind (extra-part line fault.line was now passes some (sym at) ranks)

@@ -8,12 +8,14 @@ use Rattle.pg_text.specs.Coming.{Told}
 use Rattle.pg_text.specs.Text.{words}
 use Rattle.pg_metis.specs.declared.faults.Kind.{Kind}
 use Rattle.pg_metis.specs.declared.faults.Kind.TheVariants.{ExtraText, MissingLines, NoHeader, TooLong}
+use Rattle.pg_metis.specs.declared.faults.LineFault.{LineFault}
 use Rattle.pg_metis.specs.declared.reading.Rows.{Rows}
 use Rattle.pg_metis.specs.Ahead.{IsPastLimit, Passes, TakesContent}
 use Rattle.pg_metis.specs.Arcs.{Keeps}
 use Rattle.pg_metis.specs.Content.{Content, NumberedLine, content_of}
 use Rattle.pg_metis.specs.Fault.{Fault, arcs_or_none, at_line, body_fault, content_fault, end_fault, extra_fault, fault_of, header_fault, line_fault, lines_fault, named_arcs, pairs_fault, vertex_fault}
 use Rattle.pg_metis.specs.File.{Format, Header, line_arcs}
+use Rattle.pg_metis.specs.LineFaults.{IsLineFault}
 use Rattle.pg_metis.proofs.AheadContent.{same-content}
 use Rattle.pg_metis.proofs.ToldLemmas.{if_some-both, if_some-weaker, told-if, told-on, told-then}
 use Rattle.pg_metis.specs.Reading.{AreRowsOf, HasLines, ReadsBody, ReadsRows, TakesHeader, TakesRow, blank_fault, extra_lines_fault}
@@ -205,3 +207,17 @@ takes-at more others number line a b same told = subst (λ (m : Bool). Told a b 
 pub text-fault : (text : List ℕ) (fault : Option Fault) → content_fault (content_of text) ≡ fault → fault_of text ≡ fault
 unfolding fault_of
 text-fault text fault is = is
+
+-- The fault of the header's line, or that there is none.
+pub header-refused : (more : Bool) (number : ℕ) (line : List ℕ) (was now : Content) (fault : LineFault) → TakesContent more number line was now → IsLineFault header_fault NoHeader more number line fault → content_fault was ≡ Some (record { line = fault.line; kind = fault.kind })
+header-refused true number line was now fault takes (at, bad) = bad-header (record { number = number; bytes = line }) fault.line was now fault.kind takes bad (sym at)
+header-refused false number line was now fault takes (at, kind) = rw kind (no-header number fault.line line was now takes at)
+
+-- The fault of a vertex's line, or that there is none.
+pub row-refused : (header : Header) (v : ℕ) (more : Bool) (number : ℕ) (line : List ℕ) (was now : Content) (fault : LineFault) → v ≤ header.n → TakesContent more number line was now → IsLineFault (vertex_fault header v) MissingLines more number line fault → body_fault header v was ≡ Some (record { line = fault.line; kind = fault.kind })
+row-refused header v true number line was now fault last takes (at, bad) = bad-row header v (record { number = number; bytes = line }) fault.line was now fault.kind last takes bad (sym at)
+row-refused header v false number line was now fault last takes (at, kind) = rw kind (no-row header v number fault.line line was now last takes at)
+
+-- A line after those of the vertices that has a word.
+pub blank-refused : (line : NumberedLine) (was now : Content) (fault : LineFault) → Passes (line ∷ []) was now → words line.bytes ≢ [] → fault.line ≡ line.number → fault.kind ≡ ExtraText → blank_fault was ≡ Some (record { line = fault.line; kind = fault.kind })
+blank-refused line was now fault passes some at kind = rw kind (bad-blank line fault.line was now passes (extra-word (words line.bytes) some) (sym at))

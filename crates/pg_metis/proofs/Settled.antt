@@ -75,10 +75,14 @@ module _ (n : ℕ) (arcs : List Arc) (edges : List Edge) (named : AreNamed n arc
   pub edge_is : (e : Edge) → Contains edges e → IsEdge n e
   edge_is e among =
       let is = All-contains (IsNamed n) arcs (backward e) named.within (All-contains (λ (x : Edge). Contains arcs (backward x)) edges e lower.told among) in
-      record { first = is.to_first; ascends = All-contains (λ (x : Edge). x.u < x.v) edges e lower.rising among; last = is.from_last; weight = is.weight }
+      record { first = is.to_first; ascends = All-contains (λ (x : Edge). x.u < x.v) edges e lower.rising among; last = is.from_last }
 
   pub edges_are : All (IsEdge n) edges
   edges_are i d below = edge_is (get_or edges i d) (Contains-get_or edges i d below)
+
+  pub edges_positive : All (λ e. 1 ≤ e.w) edges
+  edges_positive i d below =
+      (All-contains (IsNamed n) arcs (backward (get_or edges i d)) named.within (All-contains (λ (x : Edge). Contains arcs (backward x)) edges (get_or edges i d) lower.told (Contains-get_or edges i d below))).weight
 
   edges_ascend : AllPairs (λ d e. d.u ≤ e.u) edges
   edges_ascend i j d below inside = (lower.ascending i j d below inside).first

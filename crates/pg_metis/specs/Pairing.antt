@@ -36,6 +36,7 @@ edge_along a = record { u = min a.from a.to; v = max a.from a.to; w = a.weight }
 -- The arcs are both directions of each edge, once each and in any order, and no others. The edges ascend.
 pub record AreEdgesOf (n : ℕ) (arcs : List Arc) (edges : List Edge) : Type 0 where
   pub within : All (IsEdge n) edges
+  pub positive : All (λ e. 1 ≤ e.w) edges
   pub ascending : AllPairs Precedes edges
   pub each : All (λ a. Contains edges (edge_along a)) arcs
   pub directions : All (λ e. Contains arcs (forward e) × Contains arcs (backward e)) edges

@@ -1,5 +1,5 @@
 ghost use Rattle.std.specs.Prelude.{◌≡◌};
-ghost use Rattle.pg_metis.specs.declared.faults.GraphFault.TheVariants.{OutOfMemory};
+ghost use Rattle.pg_metis.specs.declared.faults.GraphFault.TheVariants.{OutOfMemory, Refused};
 ghost use Rattle.pg_metis.specs.Answers.{from_text};
 
 use pg_text::TextFault;
@@ -51,8 +51,26 @@ pub enum GraphFault {
     Refused { line: u64, kind: Kind },
     /// A read failed.
     Failed,
-    /// An allocation failed.
+    /// Want of memory. No clause says when it comes.
     OutOfMemory,
+}
+
+/// What is wrong with the lines of a file, and in which.
+#[derive(Clone, Copy)]
+pub(crate) struct LineFault {
+    pub line: u64,
+    pub kind: Kind,
+}
+
+impl From<LineFault> for GraphFault {
+    ghost from_gives = { λ fault gives. gives ≡ Refused fault.line fault.kind };
+
+    fn from(fault: LineFault) -> GraphFault {
+        GraphFault::Refused {
+            line: fault.line,
+            kind: fault.kind,
+        }
+    }
 }
 
 impl From<AllocError> for GraphFault {

@@ -35,7 +35,7 @@ pub(crate) struct NamedArc {
 pub(crate) enum PairFault {
     /// The first arc that has no equal mirror leaves this vertex.
     NotPaired { vertex: u32, kind: Kind },
-    /// An allocation failed.
+    /// Want of memory. No clause says when it comes.
     OutOfMemory,
 }
 

@@ -1,5 +1,5 @@
 ghost use Rattle.std.specs.Prelude.{◌≡◌};
-ghost use Rattle.pg_metis.specs.declared.parts_faults.PartsFault.TheVariants.{OutOfMemory};
+ghost use Rattle.pg_metis.specs.declared.parts_faults.PartsFault.TheVariants.{OutOfMemory, Refused};
 ghost use Rattle.pg_metis.specs.PartsAnswers.{parts_from_text};
 
 use pg_text::TextFault;
@@ -28,8 +28,26 @@ pub enum PartsFault {
     Refused { line: u64, kind: PartsKind },
     /// A read failed.
     Failed,
-    /// An allocation failed.
+    /// Want of memory. No clause says when it comes.
     OutOfMemory,
+}
+
+/// What is wrong with the lines of a file, and in which.
+#[derive(Clone, Copy)]
+pub(crate) struct PartsLineFault {
+    pub line: u64,
+    pub kind: PartsKind,
+}
+
+impl From<PartsLineFault> for PartsFault {
+    ghost from_gives = { λ fault gives. gives ≡ Refused fault.line fault.kind };
+
+    fn from(fault: PartsLineFault) -> PartsFault {
+        PartsFault::Refused {
+            line: fault.line,
+            kind: fault.kind,
+        }
+    }
 }
 
 impl From<AllocError> for PartsFault {

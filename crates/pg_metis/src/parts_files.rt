@@ -1,14 +1,16 @@
 //! From a partition file to the list of the vertices' ranks.
 
-ghost use Rattle.std.specs.Prelude.{◌≡◌, ◌<◌, ◌≤◌, ◌∷◌, [], ℕ, List, None, Some, IsTrue, IfOk, OnOk, IfErr, IfSome, All, length, vec_len};
+ghost use Rattle.std.specs.Prelude.{◌≡◌, ◌≢◌, ◌<◌, ◌≤◌, ◌∷◌, [], ℕ, List, None, Some, true, IsTrue, IfOk, OnOk, IfErr, IfSome, All, length, vec_len};
 ghost use Rattle.pg_outside.specs.Faults.{Rose};
 ghost use Rattle.pg_text.specs.Text.{numbers, words};
 ghost use Rattle.pg_metis.specs.Ahead.{content_ahead};
+ghost use Rattle.pg_metis.specs.LineFaults.{IsPartsLineFault};
 ghost use Rattle.pg_metis.specs.Parts.{FirstPartsFault, PartsOf, part_fault, parts_content_fault, parts_fault_of};
 ghost use Rattle.pg_metis.specs.PartsAnswers.{ArePartsNotRefused, ArePartsRefusedAs, OnPartsFailed, OnPartsRefused};
 ghost use Rattle.pg_metis.specs.PartsReading.{TakesPart, TakesParts};
 
 use crate::content::{has_word, next_content};
+use crate::parts_faults::PartsLineFault;
 use crate::{MAX_FILE_BYTES, PartsFault, PartsKind};
 use pg_base::Ranks;
 use pg_outside::Inputs;
@@ -21,7 +23,7 @@ use std::alloc::Global;
 ///
 /// `Refused` comes exactly where the contents have that first fault and no read failed before it was found.
 /// `Failed` comes only where the count of faults rose. After `Ok` the input was read to its end; after an
-/// `Err` it stands anywhere. Takes memory for a buffer and for `n` numbers, whatever the file holds, and time
+/// `Err` it stands anywhere. Takes memory for its longest line and for `n` numbers, and time
 /// linear in its bytes. Source: METIS 5.1 manual, section 4.2.1.
 pub fn read_parts<I: Inputs>(
     alloc: Global,
@@ -88,18 +90,28 @@ fn read_line<I: Inputs>(
     ensures refused { OnPartsRefused result (λ fault. IfSome (content_ahead reader.old (I.left inputs.old)) (λ was. (wanted : ℕ) → 1 ≤ wanted → parts_content_fault wanted ranks was ≡ Some fault)) }
     ensures failed { OnPartsFailed result (Rose (I.faults inputs.old) (I.faults inputs.new)) }
 {
-    if !next_content(reader, inputs)? {
-        return Err(PartsFault::Refused {
-            line: reader.line_number() + 1,
+    let more = next_content(reader, inputs)?;
+    let part = part_at(reader, more, ranks)?;
+    Ok(part)
+}
+
+/// The rank that the line taken last gives, where there was one more.
+fn part_at(reader: &LineReader, more: bool, ranks: Ranks) -> Result<u32, PartsLineFault>
+    ensures some { OnOk result (more ≡ true) }
+    ensures gives { IfOk result (λ part. numbers (words reader.now.line.items) ≡ Some (part ∷ [])) }
+    ensures below { IfOk result (λ part. part < ranks) }
+    ensures refused { IfErr result (IsPartsLineFault (part_fault ranks) PartsKind.MissingLines more reader.now.lines reader.now.line.items) }
+{
+    let line = reader.line_number();
+    if !more {
+        return Err(PartsLineFault {
+            line: line + 1,
             kind: PartsKind::MissingLines,
         });
     }
     match part_of(reader.line(), ranks) {
         Ok(part) => Ok(part),
-        Err(kind) => Err(PartsFault::Refused {
-            line: reader.line_number(),
-            kind,
-        }),
+        Err(kind) => Err(PartsLineFault { line, kind }),
     }
 }
 
@@ -137,12 +149,21 @@ fn read_end<I: Inputs>(reader: &mut LineReader, inputs: &mut I) -> Result<(), Pa
     ensures failed { OnPartsFailed result (Rose (I.faults inputs.old) (I.faults inputs.new)) }
 {
     while next_content(reader, inputs)? {
-        if has_word(reader.line()) {
-            return Err(PartsFault::Refused {
-                line: reader.line_number(),
-                kind: PartsKind::ExtraText,
-            });
-        }
+        blank_at(reader)?;
+    }
+    Ok(())
+}
+
+/// Sees that the line taken last, which follows those of the vertices, has no word.
+fn blank_at(reader: &LineReader) -> Result<(), PartsLineFault>
+    ensures ok { OnOk result (words reader.now.line.items ≡ []) }
+    ensures refused { IfErr result (λ fault. (fault.line ≡ reader.now.lines) × (fault.kind ≡ PartsKind.ExtraText) × (words reader.now.line.items ≢ [])) }
+{
+    if has_word(reader.line()) {
+        return Err(PartsLineFault {
+            line: reader.line_number(),
+            kind: PartsKind::ExtraText,
+        });
     }
     Ok(())
 }

@@ -1,16 +1,21 @@
 //! A graph file line by line: its header, the lines of its vertices, and what follows them.
 
-ghost use Rattle.std.specs.Prelude.{◌≡◌, ◌<◌, ◌≤◌, [], Some, None, IsTrue, IfOk, OnOk, IfSome, length, All};
+ghost use Rattle.std.specs.Prelude.{◌≡◌, ◌≢◌, ◌+◌, ◌<◌, ◌≤◌, [], Some, None, true, IsTrue, IfOk, IfErr, OnOk, IfSome, length, All};
 ghost use Rattle.pg_outside.specs.Faults.{Rose};
 ghost use Rattle.pg_text.specs.Coming.{Told};
 ghost use Rattle.pg_metis.specs.Ahead.{content_ahead};
 ghost use Rattle.pg_metis.specs.Answers.{OnFailed, OnRefused};
-ghost use Rattle.pg_metis.specs.Fault.{body_fault, content_fault, fault_of};
+ghost use Rattle.pg_text.specs.Text.{words};
+ghost use Rattle.pg_metis.specs.Arcs.{Adds};
+ghost use Rattle.pg_metis.specs.Fault.{arcs_or_none, body_fault, content_fault, fault_of, header_fault, vertex_fault};
+ghost use Rattle.pg_metis.specs.File.{header_of, line_arcs};
+ghost use Rattle.pg_metis.specs.LineFaults.{IsLineFault};
 ghost use Rattle.pg_metis.specs.Headers.{header_in};
 ghost use Rattle.pg_metis.specs.Reading.{TakesHeader, TakesRow, AreRowsOf, ReadsRows, blank_fault, ReadsBody, ReadsFile};
 
 use crate::arcs::NamedArcs;
 use crate::content::{has_word, next_content};
+use crate::faults::LineFault;
 use crate::headers::Header;
 use crate::rows::take_row;
 use crate::{GraphFault, Kind, MAX_FILE_BYTES};
@@ -47,18 +52,28 @@ fn read_header<I: Inputs>(reader: &mut LineReader, inputs: &mut I) -> Result<Hea
     ensures refused { OnRefused result (λ fault. IfSome (content_ahead reader.old (I.left inputs.old)) (λ was. content_fault was ≡ Some fault)) }
     ensures failed { OnFailed result (Rose (I.faults inputs.old) (I.faults inputs.new)) }
 {
-    if !next_content(reader, inputs)? {
-        return Err(GraphFault::Refused {
-            line: reader.line_number() + 1,
+    let more = next_content(reader, inputs)?;
+    let header = header_at(reader, more)?;
+    Ok(header)
+}
+
+/// The header that the line taken last is, where there was one more.
+fn header_at(reader: &LineReader, more: bool) -> Result<Header, LineFault>
+    ensures some { OnOk result (more ≡ true) }
+    ensures ok { IfOk result (λ header. header_of (words reader.now.line.items) ≡ Some (header_in header)) }
+    ensures faultless { OnOk result (header_fault (words reader.now.line.items) ≡ None) }
+    ensures refused { IfErr result (IsLineFault header_fault Kind.NoHeader more reader.now.lines reader.now.line.items) }
+{
+    let line = reader.line_number();
+    if !more {
+        return Err(LineFault {
+            line: line + 1,
             kind: Kind::NoHeader,
         });
     }
     match Header::of_line(reader.line()) {
         Ok(header) => Ok(header),
-        Err(kind) => Err(GraphFault::Refused {
-            line: reader.line_number(),
-            kind,
-        }),
+        Err(kind) => Err(LineFault { line, kind }),
     }
 }
 
@@ -82,24 +97,49 @@ fn read_row<I: Inputs>(
     ensures refused { OnRefused result (λ fault. IfSome (content_ahead reader.old (I.left inputs.old)) (λ was. body_fault (header_in header) vertex was ≡ Some fault)) }
     ensures failed { OnFailed result (Rose (I.faults inputs.old) (I.faults inputs.new)) }
 {
-    if !next_content(reader, inputs)? {
-        return Err(GraphFault::Refused {
-            line: reader.line_number() + 1,
+    let more = next_content(reader, inputs)?;
+    let line = row_at(
+        reader,
+        more,
+        header,
+        vertex,
+        &mut rows.stamps,
+        &mut rows.arcs,
+    )?;
+    rows.numbers.push(line)?;
+    Ok(())
+}
+
+/// Takes the words of the line taken last, where there was one more, as those of `vertex`, and answers its number.
+fn row_at(
+    reader: &LineReader,
+    more: bool,
+    header: Header,
+    vertex: u32,
+    stamps: &mut [u32],
+    arcs: &mut NamedArcs,
+) -> Result<u64, LineFault>
+    requires first { 1 ≤ vertex }
+    requires stamps { length stamps.old ≡ header.n }
+    requires earlier { All (λ stamp. stamp < vertex) stamps.old }
+    ensures some { OnOk result (more ≡ true) }
+    ensures line { IfOk result (λ line. line ≡ reader.now.lines) }
+    ensures faultless { OnOk result (vertex_fault (header_in header) vertex (words reader.now.line.items) ≡ None) }
+    ensures arcs { OnOk result (Adds arcs.old (arcs_or_none (line_arcs (header_in header).format vertex reader.now.line.items)) arcs.new) }
+    ensures stamps { OnOk result (All (λ stamp. stamp < vertex + 1) stamps.new) }
+    ensures refused { IfErr result (IsLineFault (vertex_fault (header_in header) vertex) Kind.MissingLines more reader.now.lines reader.now.line.items) }
+{
+    let line = reader.line_number();
+    if !more {
+        return Err(LineFault {
+            line: line + 1,
             kind: Kind::MissingLines,
         });
     }
-    let line = reader.line_number();
-    if let Err(kind) = take_row(
-        header,
-        vertex,
-        reader.line(),
-        &mut rows.stamps,
-        &mut rows.arcs,
-    ) {
-        return Err(GraphFault::Refused { line, kind });
+    match take_row(header, vertex, reader.line(), stamps, arcs) {
+        Ok(()) => Ok(line),
+        Err(kind) => Err(LineFault { line, kind }),
     }
-    rows.numbers.push(line)?;
-    Ok(())
 }
 
 impl Rows {
@@ -154,12 +194,21 @@ fn read_end<I: Inputs>(reader: &mut LineReader, inputs: &mut I) -> Result<(), Gr
     ensures failed { OnFailed result (Rose (I.faults inputs.old) (I.faults inputs.new)) }
 {
     while next_content(reader, inputs)? {
-        if has_word(reader.line()) {
-            return Err(GraphFault::Refused {
-                line: reader.line_number(),
-                kind: Kind::ExtraText,
-            });
-        }
+        blank_at(reader)?;
+    }
+    Ok(())
+}
+
+/// Sees that the line taken last, which follows those of the vertices, has no word.
+fn blank_at(reader: &LineReader) -> Result<(), LineFault>
+    ensures ok { OnOk result (words reader.now.line.items ≡ []) }
+    ensures refused { IfErr result (λ fault. (fault.line ≡ reader.now.lines) × (fault.kind ≡ Kind.ExtraText) × (words reader.now.line.items ≢ [])) }
+{
+    if has_word(reader.line()) {
+        return Err(LineFault {
+            line: reader.line_number(),
+            kind: Kind::ExtraText,
+        });
     }
     Ok(())
 }

@@ -304,3 +304,29 @@ fn a_failed_read_gives_no_graph(rt: HostRuntime) -> Result<(), Fail> {
     }
     Ok(())
 }
+
+#[test]
+fn a_fault_is_told_before_a_later_read_fails(rt: HostRuntime) -> Result<(), Fail> {
+    let cases = [
+        ("1\n", "\n", 1, Kind::HeaderWords),
+        ("x 1\n", "2\n1\n", 1, Kind::BadNumber),
+        ("1048577 0\n", "\n", 1, Kind::OverLimit),
+        ("1 0 2\n", "\n", 1, Kind::BadFormat),
+        ("% c\n2 1 1\n2\n", "1 5\n", 3, Kind::ShortLine),
+        ("3 2\n2\n1 4\n", "2\n", 3, Kind::OutOfRange),
+        ("1 1\n1\n", "", 2, Kind::SelfEdge),
+        ("2 1\n2 2\n", "1\n", 2, Kind::Repeated),
+        ("2 1 1\n2 0\n", "1 0\n", 2, Kind::ZeroWeight),
+        ("2 1\n2\n1\n3\n", "\n", 4, Kind::ExtraText),
+    ];
+    let alloc = rt.alloc();
+    for (front, rest, line, kind) in cases {
+        // The name is begun by the first call, and each read gives one byte.
+        let after_front = front.len() as u64 + 2;
+        let file = format!(in alloc; "{front}{rest}")?;
+        let answer = read_failing(alloc, file.as_str(), vec![in alloc; after_front]?)?;
+        let fault = GraphFault::Refused { line, kind };
+        assert_eq!(rt; answer.err(), Some(fault), "{front}");
+    }
+    Ok(())
+}

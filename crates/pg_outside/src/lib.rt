@@ -13,6 +13,8 @@ mod named_files;
 mod sinks;
 mod std_sink;
 #[cfg(test)]
+mod stream_tests;
+#[cfg(test)]
 mod tests;
 
 pub use file_inputs::FileInputs;

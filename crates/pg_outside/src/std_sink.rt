@@ -12,8 +12,8 @@ use std::io::{Stderr, Stdout, Write};
 /// error tell none. Each piece is handed on at once, by one system call where the system takes it whole.
 #[derive(Drop)]
 pub struct StdSink<W> {
-    stream: W,
-    faults: u64,
+    pub(crate) stream: W,
+    pub(crate) faults: u64,
 }
 
 impl StdSink<Stdout> {

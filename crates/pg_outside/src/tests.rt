@@ -71,6 +71,20 @@ fn a_directory_cannot_be_read_as_a_file(rt: HostRuntime) {
 }
 
 #[test]
+fn each_name_is_begun_for_itself(rt: HostRuntime) -> Result<(), Fail> {
+    let mut inputs = FileInputs::new(&rt);
+    let mut buf = [1u8; 4];
+    inputs.begin("/dev/null")?;
+    assert_eq!(rt; inputs.read(&mut buf), Ok(0));
+    inputs.begin("/dev/zero")?;
+    assert_eq!(rt; inputs.read(&mut buf), Ok(4));
+    assert_eq!(rt; buf[0], 0);
+    inputs.begin("/dev/null")?;
+    assert_eq!(rt; inputs.read(&mut buf), Ok(0));
+    Ok(())
+}
+
+#[test]
 fn the_standard_streams_take_a_piece(rt: HostRuntime) -> Result<(), Fail> {
     StdSink::output(rt.stdout()).write_all(b"")?;
     StdSink::errors(rt.stderr()).write_all(b"\n")?;

@@ -1,5 +1,5 @@
 -- Texts that grow line by line.
-use Rattle.std.proofs.Common.{◌≡◌, ℕ, ◌+◌, ◌<◌, ◌≤◌, ◌⊎◌, inl, inr, List, [], ◌∷◌, ◌++◌, suc, length, take, drop, get_or, sym, ◌∙◌, ap, append_assoc, arith, rules, Result, Ok, Err, append-nil, Option, Some, None, OnOk, OnErr}
+use Rattle.std.proofs.Common.{◌≡◌, ℕ, ◌+◌, ◌<◌, ◌≤◌, ◌⊎◌, inl, inr, List, [], ◌∷◌, ◌++◌, suc, length, take, drop, get_or, sym, ◌∙◌, ap, append_assoc, arith, rules, append-nil, Option, Some, None}
 use Rattle.std.specs.Io.KnownBytes.{Appends}
 use Rattle.std.proofs.Math.Seq.{take-append-add, take-append_seam, take-length, drop-cons}
 use Rattle.std.proofs.lemmas.List.{take-append-le, take_all, take-append-drop, take_more}
@@ -7,9 +7,7 @@ use Rattle.std.proofs.lemmas.Grind.{flat_map-append}
 use Rattle.std.proofs.lemmas.Bool.{cases_lt}
 use Rattle.std.proofs.lemmas.Option.{get_or_from_slice_get, slice_get_within}
 use Rattle.std.specs.List.{slice_get}
-use Rattle.pg_outside.specs.Faults.{Rose}
 use Rattle.pg_outside.specs.Written.{AppendsFront}
-use Rattle.pg_outside.specs.declared.Failed.{Failed}
 use Rattle.pg_print.specs.Columns.{answer_line, column_text}
 
 pub Appends-more : (a b c : Option (List ℕ)) (xs ys : List ℕ) → Appends a b xs → Appends b c ys → Appends a c (xs ++ ys)

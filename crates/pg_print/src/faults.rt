@@ -1,8 +1,11 @@
 ghost use Rattle.std.specs.Prelude.{◌≡◌};
 ghost use Rattle.pg_print.specs.FaultLines.{status_of};
+ghost use Rattle.pg_print.specs.FaultsFrom.{from_graph, from_parts};
+ghost use Rattle.pg_print.specs.declared.faults.Fault.TheVariants.{Memory};
 
 use pg_base::Status;
-use pg_metis::{Kind, PartsKind};
+use pg_metis::{GraphFault, Kind, PartsFault, PartsKind};
+use std::alloc::AllocError;
 
 /// Why a run printed no answer.
 #[derive(Clone, Copy, Debug, PartialEq, Eq)]
@@ -19,7 +22,7 @@ pub enum Fault {
     Read,
     /// A write failed.
     Write,
-    /// An allocation failed.
+    /// Want of memory. No clause says when it comes.
     Memory,
 }
 
@@ -37,5 +40,37 @@ impl Fault {
             Fault::Write => Status::WriteFault,
             Fault::Memory => Status::NoMemory,
         }
+    }
+}
+
+impl From<GraphFault> for Fault {
+    ghost from_gives = { λ fault gives. gives ≡ from_graph fault };
+
+    fn from(fault: GraphFault) -> Fault {
+        match fault {
+            GraphFault::Refused { line, kind } => Fault::Graph { line, kind },
+            GraphFault::Failed => Fault::Read,
+            GraphFault::OutOfMemory => Fault::Memory,
+        }
+    }
+}
+
+impl From<PartsFault> for Fault {
+    ghost from_gives = { λ fault gives. gives ≡ from_parts fault };
+
+    fn from(fault: PartsFault) -> Fault {
+        match fault {
+            PartsFault::Refused { line, kind } => Fault::Parts { line, kind },
+            PartsFault::Failed => Fault::Read,
+            PartsFault::OutOfMemory => Fault::Memory,
+        }
+    }
+}
+
+impl From<AllocError> for Fault {
+    ghost from_gives = { λ _ fault. fault ≡ Memory };
+
+    fn from(_error: AllocError) -> Fault {
+        Fault::Memory
     }
 }

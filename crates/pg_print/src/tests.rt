@@ -1,5 +1,6 @@
 //! The texts, as a sink in memory gets them.
 ghost use Rattle.std.specs.Prelude.{◌≤◌, length};
+ghost use Rattle.pg_base.specs.declared.TheConstants.{MAX_VERTICES};
 
 use crate::{Column, Fault, print_column, print_fault};
 use pg_base::Vertex;
@@ -11,7 +12,7 @@ use std::test::Fail;
 #[derive(Drop)]
 struct Answers {
     list: Vec<Option<u64>>,
-    ghost few: { length list.items ≤ 1048576 },
+    ghost few: { length list.items ≤ MAX_VERTICES },
 }
 
 impl Column for Answers {
@@ -50,6 +51,34 @@ fn each_line_is_one_write(rt: HostRuntime) -> Result<(), Fail> {
         let written = print_column(&mut out, &column(alloc)?);
         assert!(rt; written.is_err());
         assert_eq!(rt; out.text(), text.as_bytes());
+    }
+    Ok(())
+}
+
+#[test]
+fn the_line_of_a_fault_is_one_write(rt: HostRuntime) -> Result<(), Fail> {
+    let alloc = rt.alloc();
+    let faults = [
+        Fault::Words,
+        Fault::Graph {
+            line: u64::MAX,
+            kind: Kind::MirrorWeight,
+        },
+        Fault::Parts {
+            line: 3,
+            kind: PartsKind::OutOfRange,
+        },
+        Fault::Source { source: u32::MAX },
+        Fault::Read,
+        Fault::Write,
+        Fault::Memory,
+    ];
+    for fault in faults {
+        let mut out = MemorySink::new(alloc, 80, vec![in alloc; (2, 0)]?)?;
+        assert!(rt; print_fault(&mut out, &fault).is_ok());
+        let mut out = MemorySink::new(alloc, 80, vec![in alloc; (1, 0)]?)?;
+        assert!(rt; print_fault(&mut out, &fault).is_err());
+        assert_eq!(rt; out.text(), b"".as_slice());
     }
     Ok(())
 }

@@ -11,7 +11,7 @@ pub enum TextFault {
     Failed,
     /// The line of this number, counted from 1, holds a byte past the limit.
     TooLong { line: u64 },
-    /// An allocation failed.
+    /// Want of memory. No clause says when it comes.
     OutOfMemory,
 }
 

@@ -1,5 +1,5 @@
 //! The lines of an input, each with its number.
-ghost use Rattle.std.specs.Prelude.{◌≡◌, ◌<◌, ◌≤◌, ◌+◌, ◌-◌, ◌^◌, [], ℕ, List, Option, None, Some, IsTrue, if◌then◌else◌, true, false, is_some, IfOk, IfSome};
+ghost use Rattle.std.specs.Prelude.{◌≡◌, ◌<◌, ◌≤◌, ◌+◌, ◌-◌, ◌^◌, [], ℕ, List, Option, None, Some, IsTrue, if◌then◌else◌, true, false, is_ok, is_some, IfOk, IfSome};
 ghost use Rattle.pg_outside.specs.Faults.{Rose};
 ghost use Rattle.pg_text.specs.Answers.{OnFailed, OnTooLong};
 ghost use Rattle.pg_text.specs.Coming.{coming, Gives, Told};
@@ -25,6 +25,8 @@ pub struct Lines<'a, I> {
     limit: u64,
     /// None before the first line.
     reader: Option<LineReader>,
+    /// Whether no call of `next` answered an error so far.
+    usable: bool,
     ghost limited: { limit < 2 ^ 64 - 1 },
 }
 
@@ -43,20 +45,25 @@ impl<'a, I: Inputs> Lines<'a, I> {
         ensures same_reference { result.inputs.ghost_name ≡ inputs.entry.ghost_name }
         ensures ahead { (left : Option (List ℕ)) → ahead result left ≡ option_map (ahead_within limit) left }
         ensures given { given result ≡ 0 }
+        ensures usable { result.usable ≡ true }
     {
         Lines {
             inputs,
             limit,
             reader: None,
+            usable: true,
         }
     }
 
     /// The next line, comment lines among them. `None` comes exactly where no line is left, and the input was
     /// then read to its end. `TooLong` comes exactly where the next line holds a byte past the limit, `Failed`
-    /// only where the input's count of faults rose. After an error nothing is said of the lines to come.
+    /// only where the input's count of faults rose. After an error the lines are over: the front of a line may
+    /// be lost, so no further one may be asked for. The input is still given back.
     #[tactic(auto, unfolding(crate::specs::Giving::ahead, crate::specs::Giving::given))]
     pub fn next(&mut self, alloc: Global) -> Result<Option<Line>, TextFault>
         requires begun { IsTrue (I.begun self.old.inputs.now) }
+        requires usable { self.old.usable ≡ true }
+        ensures usable { self.new.usable ≡ is_ok result }
         ensures same_reference { self.new.inputs.ghost_name ≡ self.old.inputs.ghost_name }
         ensures limit { self.new.limit ≡ self.old.limit }
         ensures later { I.faults self.old.inputs.now ≤ I.faults self.new.inputs.now }
@@ -71,15 +78,18 @@ impl<'a, I: Inputs> Lines<'a, I> {
         ensures at { OnTooLong result (λ line. line ≡ given self.old + 1) }
         ensures failed { OnFailed result (Rose (I.faults self.old.inputs.now) (I.faults self.new.inputs.now)) }
     {
-        match &mut self.reader {
-            Some(reader) => next_line(reader, self.inputs, alloc),
+        self.usable = false;
+        let next = match &mut self.reader {
+            Some(reader) => next_line(reader, self.inputs, alloc)?,
             None => {
                 let mut reader = LineReader::new(alloc, self.limit)?;
                 let next = next_line(&mut reader, self.inputs, alloc);
                 self.reader = Some(reader);
-                next
+                next?
             }
-        }
+        };
+        self.usable = true;
+        Ok(next)
     }
 
     /// Gives the input back. It may have been read beyond the lines that were given.

@@ -72,7 +72,8 @@ impl LineReader {
 
     /// Takes the next line, and says whether there was one; where there was none, the input was read to its
     /// end. `TooLong` comes exactly where the next line holds a byte past the limit, `Failed` only where the
-    /// input's count of faults rose. After an error nothing is said of the lines to come.
+    /// input's count of faults rose. After an error the front of a line may be lost, so nothing is said of
+    /// the lines that further calls take; how many were taken before it is still told.
     pub fn next<I: Inputs>(&mut self, inputs: &mut I) -> Result<bool, TextFault>
         requires begun { IsTrue (I.begun inputs.old) }
         ensures later { I.faults inputs.old ≤ I.faults inputs.new }

@@ -84,6 +84,18 @@ fn a_read_that_fails_in_a_line_is_no_end(rt: HostRuntime) -> Result<(), Fail> {
 }
 
 #[test]
+fn the_input_is_given_back_after_an_error(rt: HostRuntime) -> Result<(), Fail> {
+    let mut inputs = begun(rt.alloc(), b"ab\ncd\n", 3, &[3])?;
+    let mut lines = Lines::new(&mut inputs, 6);
+    assert!(rt; lines.next(rt.alloc())?.is_some());
+    assert_eq!(rt; lines.next(rt.alloc()), Err(TextFault::Failed));
+    let mut buf = [0u8; 9];
+    assert_eq!(rt; lines.into_inputs().read(&mut buf), Ok(3));
+    assert_eq!(rt; buf[0], b'c');
+    Ok(())
+}
+
+#[test]
 fn the_input_is_given_back(rt: HostRuntime) -> Result<(), Fail> {
     let mut inputs = begun(rt.alloc(), b"ab", 1, &[])?;
     let mut buf = [0u8; 2];

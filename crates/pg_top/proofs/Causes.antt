@@ -1,5 +1,5 @@
 -- From the outcome of a run to the clauses of its status.
-use Rattle.std.proofs.Common.{◌≡◌, ℕ, ◌≤◌, ◌⊎◌, inl, inr, Option, Some, None, List, length, refl, ◌∙◌, ap, subst, arith}
+use Rattle.std.proofs.Common.{◌≡◌, ℕ, ◌≤◌, ◌⊎◌, inl, inr, Option, Some, None, List, refl, ◌∙◌, ap, subst, arith}
 use Rattle.pg_base.specs.Graph.{Graph}
 use Rattle.pg_base.specs.declared.outcomes.Status.TheVariants.{Ok, BadGraph, BadSource}
 use Rattle.pg_outside.specs.Faults.{Rose}
@@ -13,10 +13,21 @@ use Rattle.pg_metis.proofs.OneGraph.{files_are_of_one_graph}
 use Rattle.pg_print.specs.declared.faults.Fault.{Fault}
 use Rattle.pg_print.specs.declared.faults.Fault.TheVariants.{Words, Graph as GraphFault, Parts, Source, Read, Write, Memory}
 use Rattle.pg_print.specs.FaultLines.{status_of}
-use Rattle.pg_top.specs.Plan.{Meaning, plan_of}
-use Rattle.pg_top.specs.Run.{IsOutside, IsOrNoMemory, FileHolds, IsFileOf, HasPlan, HasText, RunFails, SearchFails, Tells, Traces, told}
+use Rattle.pg_words.specs.Plan.{Meaning, plan_of}
+use Rattle.pg_top.specs.Run.{IsOutside, IsOrNoMemory, FileHolds, IsFileOf, HasPlan, HasText, RunFails, Tells, Traces, told}
 use Rattle.pg_top.specs.Text.{IsTextOf, IsSearchText}
-use Rattle.pg_top.proofs.PlanLaws.{plan_of-algorithm}
+use Rattle.pg_words.specs.Built.{IsBuilt}
+use Rattle.pg_lane.specs.declared.settling.Settled.{Settled}
+use Rattle.pg_group.specs.declared.messages.Envelope.{Envelope}
+use Rattle.pg_label.specs.declared.labels.Hops.{Hops}
+use Rattle.pg_label.specs.contracts.labels.HopsLabel.TheImpl.{ghosts as hops}
+use Rattle.pg_agenda.specs.declared.levels.Levels.{Levels}
+use Rattle.pg_agenda.specs.contracts.levels.LevelsAgenda.TheImpl.{ghosts as levels}
+use Rattle.pg_best.specs.declared.offers.Offer.{Offer}
+use Rattle.pg_relax.specs.declared.relaxing.Relax.{Relax}
+use Rattle.pg_top.specs.declared.works.Work.{Work}
+use Rattle.pg_top.specs.Work.{HasWork, IsFoundFor, IsSearch, IsWork}
+use Rattle.pg_words.proofs.BuiltLaws.{plans_are_built}
 
 not_outside : (g : Graph) (v : ℕ) → 1 ≤ v → v ≤ g.n → IsOutside g v → ⊥
 not_outside g v first last (inl zero) = omega arith
@@ -43,12 +54,33 @@ not_both text g fault file found = let none : fault_of text ≡ None = files_hav
 FileOf-n : (text : List ℕ) (g h : Graph) → FileOf text g → FileOf text h → g.n ≡ h.n
 FileOf-n text g h p q = ap (λ (k : Graph). k.n) (files_are_of_one_graph text g h p q)
 
--- What is written for the plan's file is the plan's text.
-pub HasText-from_found : (spoken : List (List ℕ)) (files : Option (List NamedBytes)) (plan : Meaning) (text : List ℕ) (P : List ℕ → Type 0) → plan_of spoken ≡ Some plan → FileHolds plan.file files (IsFileOf (λ g. IsSearchText g plan.source text)) → P text → HasPlan spoken (λ other. HasText other files P)
-HasText-from_found spoken files plan text P planned found done =
-    let algorithm = plan_of-algorithm spoken plan planned in
-    let through : (contents : List ℕ) → IsFileOf (λ g. IsSearchText g plan.source text) contents → IsFileOf (λ g. (written : List ℕ) × IsTextOf plan g written × P written) contents = λ contents (g, plain, search). (g, plain, (text, (algorithm, search), done)) in
-    (plan, planned, FileHolds-weaker plan.file files _ _ through found)
+-- A plan asks for what is built.
+pub built_plan : (spoken : List (List ℕ)) (plan : Meaning) → plan_of spoken ≡ Some plan → IsBuilt plan
+built_plan spoken plan planned = plans_are_built spoken plan planned
+
+-- What was found for the plan's file is its text and its work.
+module _ (spoken : List (List ℕ)) (files : Option (List NamedBytes)) (text : List ℕ) (programs : List (Relax Hops Levels hops levels)) (lanes : List (Settled (Envelope Offer))) where
+  abbrev FoundFor : Meaning → Type 0
+  FoundFor plan = FileHolds plan.file files (IsFileOf (IsFoundFor plan.source plan.ranks plan.capacity text programs lanes))
+
+  pub text_from_found : (P : List ℕ → Type 0) → HasPlan spoken FoundFor → P text → HasPlan spoken (λ plan. HasText plan files P)
+  text_from_found P (plan, planned, found) done =
+      let algorithm = (built_plan spoken plan planned).algorithm in (
+        plan,
+        planned,
+        FileHolds-weaker plan.file files _ _ (λ contents (g, plain, f).
+            (g, plain, (text, (algorithm, record { first = f.first; last = f.last; distances = f.search.distances; least = f.search.least; spelled = f.search.spelled }), done))) found,
+      )
+
+  pub work_from_found : (P : List ℕ → Type 0) (work : Work) → ((plan : Meaning) (g : Graph) → IsSearch plan.source plan.ranks plan.capacity g text programs lanes → IsWork plan g text work)
+      → HasPlan spoken FoundFor → P text → HasPlan spoken (λ plan. HasWork plan files work P)
+  work_from_found P work is (plan, planned, found) done =
+      let algorithm = (built_plan spoken plan planned).algorithm in (
+        plan,
+        planned,
+        FileHolds-weaker plan.file files _ _ (λ contents (g, plain, f).
+            (g, plain, (text, (algorithm, record { first = f.first; last = f.last; distances = f.search.distances; least = f.search.least; spelled = f.search.spelled }), is plan g f.search, done))) found,
+      )
 
 -- A text that was written is that of a file without a fault.
 pub no_text : (spoken : List (List ℕ)) (files : Option (List NamedBytes)) (plan : Meaning) (text : List ℕ) (fault : FirstFault) (P : List ℕ → Type 0) → Tells spoken files plan text → fault_of text ≡ Some fault → HasPlan spoken (λ other. HasText other files P) → ⊥

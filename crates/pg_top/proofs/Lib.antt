@@ -1,7 +1,6 @@
 pub mod Causes
-pub mod Levels
-pub mod PlanLaws
-pub mod Rows
 pub mod SearchTexts
 pub mod Steps
-pub mod Walks
+pub mod RunLemmas
+pub mod BestLemmas
+pub mod Outcomes

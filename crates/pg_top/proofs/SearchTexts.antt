@@ -7,7 +7,7 @@ use Rattle.pg_base.specs.Graph.{Graph, Arc, arcs_of}
 use Rattle.pg_base.specs.Walk.{LeastArcs}
 use Rattle.pg_base.specs.Examples.{arc}
 use Rattle.pg_base.proofs.WalkLemmas.{apart_by_limit, least_arcs_by, least_is_one}
-use Rattle.pg_top.specs.Distances.{AreLeastArcs}
+use Rattle.pg_base.specs.Distances.{AreLeastArcs}
 use Rattle.pg_top.specs.Text.{IsSearchText}
 use Rattle.pg_print.specs.Columns.{column_text}
 use Rattle.pg_top.specs.TextLaws.{SearchTextIsOne}

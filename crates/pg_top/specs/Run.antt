@@ -11,7 +11,9 @@ use Rattle.pg_metis.specs.File.{FileOf}
 use Rattle.pg_metis.specs.Fault.{fault_of}
 use Rattle.pg_print.specs.declared.faults.Fault.{Fault}
 use Rattle.pg_print.specs.declared.faults.Fault.TheVariants.{Words, Graph as GraphFault, Source, Read, Write, Memory}
-use Rattle.pg_top.specs.Plan.{Meaning, plan_of}
+use Rattle.pg_words.specs.Plan.{Meaning, plan_of}
+use Rattle.pg_words.specs.declared.plans.PlanFault.{PlanFault}
+use Rattle.pg_words.specs.declared.plans.PlanFault.TheVariants as plan
 use Rattle.pg_top.specs.Text.{IsTextOf}
 
 -- Where the files are told, one has this name, and P holds of its contents.
@@ -56,6 +58,13 @@ abbrev pub SearchFails : Meaning → Option (List NamedBytes) → ℕ → ℕ �
 SearchFails plan files before after (Source source) = (source ≡ plan.source) × FileHolds plan.file files (IsFileOf (λ g. IsOutside g source))
 SearchFails plan files before after fault = LoadFails plan.file files before after fault
 
+-- Why there was nothing to write.
+abbrev pub PrepareFails : List (List ℕ) → Option (List NamedBytes) → ℕ → ℕ → Fault → Type 0
+PrepareFails words files before after Words = plan_of words ≡ None
+PrepareFails words files before after Write = ⊥
+PrepareFails words files before after Memory = ⊤
+PrepareFails words files before after fault = HasPlan words (λ plan. SearchFails plan files before after fault)
+
 -- The cause of a run's fault.
 abbrev pub RunFails : List (List ℕ) → Option (List NamedBytes) → Traces → Fault → Type 0
 RunFails words files t Words = plan_of words ≡ None
@@ -92,3 +101,8 @@ abbrev pub PlanFails : List (List ℕ) → Fault → Type 0
 PlanFails words Words = plan_of words ≡ None
 PlanFails words Memory = ⊤
 PlanFails words _ = ⊥
+
+-- What it is to a run that words have no plan.
+abbrev pub from_plan : PlanFault → Fault
+from_plan plan.BadWords = Words
+from_plan plan.OutOfMemory = Memory

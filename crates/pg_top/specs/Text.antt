@@ -2,9 +2,9 @@
 use Rattle.std.specs.Prelude.{◌≡◌, ℕ, ◌≤◌, Option, List}
 use Rattle.pg_base.specs.Graph.{Graph}
 use Rattle.pg_print.specs.Columns.{column_text}
-use Rattle.pg_top.specs.Distances.{AreLeastArcs}
-use Rattle.pg_top.specs.Plan.{Meaning}
-use Rattle.pg_top.specs.declared.plans.Algorithm.TheVariants.{Bfs}
+use Rattle.pg_base.specs.Distances.{AreLeastArcs}
+use Rattle.pg_words.specs.Plan.{Meaning}
+use Rattle.pg_words.specs.declared.plans.Algorithm.TheVariants.{Bfs}
 
 -- A line for each vertex, with the least number of arcs from the source, which is a vertex.
 pub record IsSearchText (g : Graph) (source : ℕ) (text : List ℕ) : Type 0 where

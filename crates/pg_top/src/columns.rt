@@ -7,19 +7,18 @@ use pg_print::Column;
 /// The least numbers of arcs that a search found, that of vertex v at place v - 1.
 #[derive(Drop)]
 pub(crate) struct Distances {
-    pub arcs: Vec<Option<u32>>,
-    ghost few: { length arcs.items ≤ MAX_VERTICES },
+    pub hops: Vec<Option<u64>>,
+    ghost few: { length hops.items ≤ MAX_VERTICES },
 }
 
 impl Column for Distances {
-    ghost answers = { λ d. d.arcs.items };
+    ghost answers = { λ d. d.hops.items };
 
     fn len(&self) -> u32 {
-        self.arcs.len() as u32
+        self.hops.len() as u32
     }
 
     fn at(&self, v: Vertex) -> Option<u64> {
-        let arcs = self.arcs[v.0 as usize - 1]?;
-        Some(u64::from(arcs))
+        self.hops[v.0 as usize - 1]
     }
 }

@@ -1,4 +1,4 @@
-ghost use Rattle.std.specs.Prelude.{◌≡◌, ◌≤◌, ◌⊎◌, None, Some, List, ℕ, IfOk, IfErr, OnOk, string_bytes};
+ghost use Rattle.std.specs.Prelude.{◌≡◌, ◌<◌, ◌≤◌, ◌⊎◌, None, Some, List, ℕ, IfOk, IfErr, OnOk, OnErr, string_bytes};
 ghost use Rattle.std.specs.Io.KnownBytes.{Appends};
 ghost use Rattle.pg_outside.specs.Faults.{Rose};
 ghost use Rattle.pg_outside.specs.Files.{IsMissing};
@@ -7,54 +7,89 @@ ghost use Rattle.pg_metis.specs.Fault.{Fault as FirstFault, fault_of};
 ghost use Rattle.pg_metis.specs.File.{FileOf};
 ghost use Rattle.pg_print.specs.Columns.{column_text};
 ghost use Rattle.pg_print.specs.FaultLines.{fault_line, status_of};
-ghost use Rattle.pg_top.specs.Text.{IsSearchText};
+ghost use Rattle.pg_top.specs.Work.{HasWork, IsFoundFor};
 ghost use Rattle.pg_base.specs.Graph.{Graph};
-ghost use Rattle.pg_top.specs.Plan.{Meaning, meaning_of, plan_of, texts};
-ghost use Rattle.pg_top.specs.Run.{IsOutside, IsOrNoMemory, IsReadToEnd, LoadFails, FileHolds, IsFileOf, HasPlan, HasText, PlanFails, Reports, RunFails, SearchFails, Tells};
+ghost use Rattle.pg_words.specs.Plan.{Meaning, meaning_of, plan_of, texts};
+ghost use Rattle.pg_top.specs.Run.{IsOutside, IsOrNoMemory, IsReadToEnd, LoadFails, FileHolds, IsFileOf, HasPlan, HasText, PlanFails, Reports, RunFails, PrepareFails, SearchFails, Tells, from_plan};
 
-use crate::columns::Distances;
-use crate::search::least_arcs;
-use crate::{Plan, PlanFault, plan};
+use crate::searching::{Found, search_graph};
+use crate::{Answer, Plan, PlanFault, Work, plan};
 use pg_base::{EdgeList, Gate, Status};
-use pg_metis::{GraphFault, read_graph};
+use pg_metis::read_graph;
 use pg_outside::{Inputs, Sink};
 use pg_print::{Fault, print_column, print_fault};
 use std::alloc::Global;
+use std::sync::Wait;
 
 /// The graph of the file of this name.
 fn load<I: Inputs>(alloc: Global, inputs: &mut I, name: &str) -> Result<EdgeList, Fault>
     ensures loaded { IfOk result (λ g. FileHolds name.now (I.files inputs.old) (λ text. FileOf text g)) }
     ensures end { OnOk result (IsReadToEnd (I.files inputs.old) (I.left inputs.new)) }
     ensures fails { IfErr result (LoadFails name.now (I.files inputs.old) (I.faults inputs.old) (I.faults inputs.new)) }
+    ensures later { I.faults inputs.old ≤ I.faults inputs.new }
+    ensures files { I.files inputs.new ≡ I.files inputs.old }
 {
     if inputs.begin(name).is_err() {
         return Err(Fault::Read);
     }
-    match read_graph(alloc, inputs) {
-        Ok(graph) => Ok(graph),
-        Err(GraphFault::Refused { line, kind }) => Err(Fault::Graph { line, kind }),
-        Err(GraphFault::Failed) => Err(Fault::Read),
-        Err(GraphFault::OutOfMemory) => Err(Fault::Memory),
+    Ok(read_graph(alloc, inputs)?)
+}
+
+/// The fault of a source that is none of the vertices from 1 to `n`.
+fn source_fault(n: u32, source: u32) -> Option<Fault>
+    ensures outside { (source ≡ 0) ⊎ (n < source) → result ≡ Some (Fault.Source source) }
+    ensures inside { 1 ≤ source → source ≤ n → result ≡ None }
+{
+    if source == 0 || source > n {
+        Some(Fault::Source { source })
+    } else {
+        None
     }
 }
 
-/// The least numbers of arcs from the plan's source, in the graph of the plan's file.
-fn find<I: Inputs>(alloc: Global, inputs: &mut I, plan: &Plan) -> Result<Distances, Fault>
-    ensures found { IfOk result (λ distances. FileHolds (string_bytes plan.now.file) (I.files inputs.old)
-        (IsFileOf (λ g. IsSearchText g plan.now.source (column_text distances.arcs.items)))) }
+/// Searches the graph of the plan's file from the plan's source.
+fn find<W: Wait, I: Inputs, G: Gate>(
+    token: &W,
+    alloc: Global,
+    inputs: &mut I,
+    plan: &Plan,
+    gate: &G,
+) -> Result<Found, Fault>
+    requires ranks_at_least { 1 ≤ plan.now.ranks }
+    requires ranks_at_most { plan.now.ranks ≤ 32 }
+    requires capacity_at_least { 1 ≤ plan.now.capacity }
+    requires capacity_at_most { plan.now.capacity ≤ 1024 }
+    ensures found { IfOk result (λ f. FileHolds (string_bytes plan.now.file) (I.files inputs.old)
+        (IsFileOf (IsFoundFor plan.now.source plan.now.ranks plan.now.capacity (column_text f.distances.hops.items) f.finished.programs.items f.finished.lanes.items))) }
     ensures end { OnOk result (IsReadToEnd (I.files inputs.old) (I.left inputs.new)) }
     ensures fails { IfErr result
         (SearchFails (meaning_of plan.now) (I.files inputs.old) (I.faults inputs.old) (I.faults inputs.new)) }
+    ensures later { I.faults inputs.old ≤ I.faults inputs.new }
+    ensures files { I.files inputs.new ≡ I.files inputs.old }
 {
     let graph = load(alloc, inputs, plan.file.as_str())?;
-    if plan.source == 0 || plan.source > graph.n() {
-        return Err(Fault::Source {
-            source: plan.source,
-        });
+    if let Some(fault) = source_fault(graph.n(), plan.source) {
+        return Err(fault);
     }
-    match least_arcs(alloc, &graph, plan.source) {
-        Ok(arcs) => Ok(Distances { arcs }),
-        Err(_) => Err(Fault::Memory),
+    search_graph(
+        token,
+        alloc,
+        graph,
+        plan.source,
+        plan.ranks,
+        plan.capacity,
+        gate,
+    )
+    .map_err(|_| Fault::Memory)
+}
+
+/// What a run's fault is where its words have no plan.
+fn words_fault(fault: PlanFault) -> Fault
+    ensures { result ≡ from_plan fault }
+{
+    match fault {
+        PlanFault::BadWords => Fault::Words,
+        PlanFault::OutOfMemory => Fault::Memory,
     }
 }
 
@@ -65,22 +100,68 @@ fn plan_or_fault(alloc: Global, words: &[String]) -> Result<Plan, Fault>
 {
     match plan(alloc, words) {
         Ok(plan) => Ok(plan),
-        Err(PlanFault::BadWords) => Err(Fault::Words),
-        Err(PlanFault::OutOfMemory) => Err(Fault::Memory),
+        Err(fault) => Err(words_fault(fault)),
     }
 }
 
+/// Plans, reads and searches.
+fn prepare<W: Wait, I: Inputs, G: Gate>(
+    token: &W,
+    alloc: Global,
+    words: &[String],
+    inputs: &mut I,
+    gate: &G,
+) -> Result<Found, Fault>
+    ensures found { IfOk result (λ f. HasPlan (texts words.now) (λ plan. FileHolds plan.file (I.files inputs.old)
+        (IsFileOf (IsFoundFor plan.source plan.ranks plan.capacity (column_text f.distances.hops.items) f.finished.programs.items f.finished.lanes.items)))) }
+    ensures end { OnOk result (IsReadToEnd (I.files inputs.old) (I.left inputs.new)) }
+    ensures fails { IfErr result (PrepareFails (texts words.now) (I.files inputs.old) (I.faults inputs.old) (I.faults inputs.new)) }
+    ensures unread { plan_of (texts words.now) ≡ None → inputs.new ≡ inputs.old }
+    ensures later { I.faults inputs.old ≤ I.faults inputs.new }
+    ensures files { I.files inputs.new ≡ I.files inputs.old }
+{
+    let plan = plan_or_fault(alloc, words)?;
+    find(token, alloc, inputs, &plan, gate)
+}
+
+/// Writes what was found to `out`.
+fn write<S: Sink>(out: &mut S, found: Found) -> (Result<(), Fault>, Work)
+    ensures printed { OnOk result.0 (Appends (S.text out.old) (S.text out.new) (column_text found.distances.hops.items)) }
+    ensures front { OnErr result.0 (AppendsFront (S.text out.old) (S.text out.new) (column_text found.distances.hops.items)) }
+    ensures cause { OnErr result.0 (Rose (S.faults out.old) (S.faults out.new)) }
+    ensures fault { IfErr result.0 (λ fault. fault ≡ Fault.Write) }
+    ensures work { result.1 ≡ Work.Hops found.finished }
+    ensures later { S.faults out.old ≤ S.faults out.new }
+{
+    let Found {
+        distances,
+        finished,
+    } = found;
+    let written = match print_column(out, &distances) {
+        Ok(()) => Ok(()),
+        Err(_) => Err(Fault::Write),
+    };
+    (written, Work::Hops(finished))
+}
+
 /// Plans, reads, searches and writes the answer to `out`.
-fn run<I: Inputs, S: Sink>(
+fn run<W: Wait, I: Inputs, S: Sink, G: Gate>(
+    token: &W,
     alloc: Global,
     words: &[String],
     inputs: &mut I,
     out: &mut S,
-) -> Result<(), Fault>
-    ensures printed { OnOk result (HasPlan (texts words.now)
+    gate: &G,
+) -> (Result<(), Fault>, Work)
+    ensures works { OnOk result.0 (HasPlan (texts words.now)
+        (λ plan. HasWork plan (I.files inputs.old) result.1 (Appends (S.text out.old) (S.text out.new)))) }
+    ensures works_partly { IfErr result.0 (λ fault. fault ≡ Fault.Write → HasPlan (texts words.now)
+        (λ plan. HasWork plan (I.files inputs.old) result.1 (AppendsFront (S.text out.old) (S.text out.new)))) }
+    ensures no_work { IfErr result.0 (λ fault. (fault ≡ Fault.Write → ⊥) → result.1 ≡ Work.None) }
+    ensures printed { OnOk result.0 (HasPlan (texts words.now)
         (λ plan. HasText plan (I.files inputs.old) (Appends (S.text out.old) (S.text out.new)))) }
-    ensures end { OnOk result (IsReadToEnd (I.files inputs.old) (I.left inputs.new)) }
-    ensures fails { IfErr result (RunFails (texts words.now) (I.files inputs.old) (record {
+    ensures end { OnOk result.0 (IsReadToEnd (I.files inputs.old) (I.left inputs.new)) }
+    ensures fails { IfErr result.0 (RunFails (texts words.now) (I.files inputs.old) (record {
       inputs_before = I.faults inputs.old;
       inputs_after = I.faults inputs.new;
       out_before = S.faults out.old;
@@ -88,27 +169,16 @@ fn run<I: Inputs, S: Sink>(
       text_before = S.text out.old;
       text_after = S.text out.new;
     })) }
-    ensures silent { IfErr result (λ fault. (fault ≡ Fault.Write → ⊥) → out.new ≡ out.old) }
+    ensures silent { IfErr result.0 (λ fault. (fault ≡ Fault.Write → ⊥) → out.new ≡ out.old) }
+    ensures unread { plan_of (texts words.now) ≡ None → inputs.new ≡ inputs.old }
+    ensures later { I.faults inputs.old ≤ I.faults inputs.new }
+    ensures files { I.files inputs.new ≡ I.files inputs.old }
+    ensures out_later { S.faults out.old ≤ S.faults out.new }
 {
-    let plan = plan_or_fault(alloc, words)?;
-    let distances = find(alloc, inputs, &plan)?;
-    match print_column(out, &distances) {
-        Ok(()) => Ok(()),
-        Err(_) => Err(Fault::Write),
+    match prepare(token, alloc, words, inputs, gate) {
+        Ok(found) => write(out, found),
+        Err(fault) => (Err(fault), Work::None),
     }
-}
-
-/// What a run leaves beside its texts: the final programs of its ranks. On one rank there are none.
-#[derive(Debug, Drop)]
-pub enum Work {
-    None,
-}
-
-/// How a run ended, and what it leaves.
-#[derive(Debug, Drop)]
-pub struct Answer {
-    pub status: Status,
-    pub work: Work,
 }
 
 /// Runs the program: the words after its name, a source of files, standard output and standard error.
@@ -121,17 +191,23 @@ pub struct Answer {
 /// The first fault that is met is answered, in this order: the words (`BadWords`), beginning and reading
 /// the file (`ReadFault`, `BadGraph`), the source (`BadSource`), the writing (`WriteFault`, after a front of
 /// the text). Want of memory (`NoMemory`) may come before the first write to `out`. Nothing is written to
-/// `out` with any status but `Ok` and `WriteFault`.
-pub fn command<I: Inputs, S: Sink, E: Sink, G: Gate>(
+/// `out` with any status but `Ok` and `WriteFault`. Where the words have no plan no name is begun and nothing is read.
+pub fn command<W: Wait, I: Inputs, S: Sink, E: Sink, G: Gate>(
+    token: &W,
     alloc: Global,
     words: &[String],
     inputs: &mut I,
     out: &mut S,
     errs: &mut E,
-    _gate: &G,
+    gate: &G,
 ) -> Answer
     ensures prints { result.status ≡ Status.Ok → HasPlan (texts words.now)
         (λ plan. HasText plan (I.files inputs.old) (Appends (S.text out.old) (S.text out.new))) }
+    ensures works { result.status ≡ Status.Ok → HasPlan (texts words.now)
+        (λ plan. HasWork plan (I.files inputs.old) result.work (Appends (S.text out.old) (S.text out.new))) }
+    ensures works_partly { result.status ≡ Status.WriteFault → HasPlan (texts words.now)
+        (λ plan. HasWork plan (I.files inputs.old) result.work (AppendsFront (S.text out.old) (S.text out.new))) }
+    ensures no_work { (result.status ≡ Status.Ok → ⊥) → (result.status ≡ Status.WriteFault → ⊥) → result.work ≡ Work.None }
     ensures read_to_end { result.status ≡ Status.Ok → IsReadToEnd (I.files inputs.old) (I.left inputs.new) }
     ensures silent { (result.status ≡ Status.Ok → ⊥) → (result.status ≡ Status.WriteFault → ⊥) →
         out.new ≡ out.old }
@@ -178,17 +254,25 @@ pub fn command<I: Inputs, S: Sink, E: Sink, G: Gate>(
           text_after = S.text out.new;
         }) fault ×
         Reports (E.faults errs.old) (E.faults errs.new) (E.text errs.old) (E.text errs.new) (fault_line fault) }
+
+    // What stays.
+    ensures unread { plan_of (texts words.now) ≡ None → inputs.new ≡ inputs.old }
+    ensures files { I.files inputs.new ≡ I.files inputs.old }
+    ensures later { I.faults inputs.old ≤ I.faults inputs.new }
+    ensures out_later { S.faults out.old ≤ S.faults out.new }
+    ensures errs_later { E.faults errs.old ≤ E.faults errs.new }
 {
-    match run(alloc, words, inputs, out) {
+    let (ended, work) = run(token, alloc, words, inputs, out, gate);
+    match ended {
         Ok(()) => Answer {
             status: Status::Ok,
-            work: Work::None,
+            work,
         },
         Err(fault) => {
             let _ = print_fault(errs, &fault);
             Answer {
                 status: fault.status(),
-                work: Work::None,
+                work,
             }
         }
     }

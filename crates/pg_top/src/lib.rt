@@ -1,16 +1,15 @@
 //! The program as one call: words in, a graph read, its answer written, and a status.
 #![tactic(auto)]
 
-mod adjacency;
 mod columns;
 mod commands;
 pub mod laws;
-mod planning;
-mod plans;
-mod search;
+mod relaxing;
+mod searching;
 #[cfg(test)]
 mod tests;
+mod works;
 
-pub use commands::{Answer, Work, command};
-pub use planning::plan;
-pub use plans::{Algorithm, Plan, PlanFault};
+pub use commands::command;
+pub use pg_words::{Algorithm, Plan, PlanFault, plan};
+pub use works::{Answer, Work};

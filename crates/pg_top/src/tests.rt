@@ -1,9 +1,13 @@
 //! The program over sources and sinks in memory.
 
+ghost use Rattle.std.specs.Prelude.{Some};
+ghost use Rattle.pg_outside.specs.MemoryInputs.{faults_of, files_of, is_begun, left_of};
+
 use crate::command;
 use pg_base::{OpenGate, Status};
-use pg_outside::{MemoryInputs, MemorySink};
-use std::alloc::Global;
+use pg_outside::{Failed, Inputs, MemoryInputs, MemorySink};
+use std::alloc::{AllocGlobal, Global};
+use std::sync::Wait;
 use std::test::Fail;
 
 /// More than any text of these tests.
@@ -16,6 +20,37 @@ const MESH: &str = "7 11\n5 3 2\n1 3 4\n5 4 2 1\n2 3 6 7\n1 3 6\n5 4 7\n6 4\n";
 const WEIGHTED: &str = "4 2 1\n2 5\n1 5 3 2\n2 2\n\n";
 
 const LONG_PATH: &str = "6 5\n2\n1 3\n2 4\n3 5\n4 6\n5\n";
+
+/// A source that counts how often a name was begun, that of the file `B` and others apart.
+#[derive(Drop)]
+struct CountingInputs {
+    inner: MemoryInputs,
+    begun: u8,
+    others: u8,
+}
+
+impl Inputs for CountingInputs {
+    ghost faults = { λ inputs. faults_of inputs.inner };
+
+    ghost files = { λ inputs. Some (files_of inputs.inner) };
+
+    ghost begun = { λ inputs. is_begun inputs.inner };
+
+    ghost left = { λ inputs. left_of inputs.inner };
+
+    fn begin(&mut self, name: &str) -> Result<(), Failed> {
+        if name == "B" {
+            self.begun = self.begun.saturating_add(1);
+        } else {
+            self.others = self.others.saturating_add(1);
+        }
+        self.inner.begin(name)
+    }
+
+    fn read(&mut self, buf: &mut [u8]) -> Result<usize, Failed> {
+        self.inner.read(buf)
+    }
+}
 
 /// What a run over one file with the name `B` left.
 #[derive(Drop)]
@@ -34,13 +69,14 @@ fn texts(alloc: Global, words: &[&str]) -> Result<Vec<String>, Fail> {
 }
 
 /// Runs the words over the file, which comes in pieces; the calls of these numbers fail.
-fn run(
-    alloc: Global,
+fn run<W: Wait + AllocGlobal>(
+    rt: &W,
     words: &[&str],
     file: &str,
     failing_reads: Vec<u64>,
     failing_writes: Vec<(u64, usize)>,
 ) -> Result<Seen, Fail> {
+    let alloc = rt.alloc();
     let mut files = Vec::new(alloc);
     files.push((
         String::from_str(alloc, "B")?,
@@ -50,15 +86,24 @@ fn run(
     let mut out = MemorySink::new(alloc, ROOM, failing_writes)?;
     let mut errs = MemorySink::new(alloc, ROOM, Vec::new(alloc))?;
     let words = texts(alloc, words)?;
-    let answer = command(alloc, &words, &mut inputs, &mut out, &mut errs, &OpenGate);
+    let answer = command(
+        rt,
+        alloc,
+        &words,
+        &mut inputs,
+        &mut out,
+        &mut errs,
+        &OpenGate,
+    );
     let status = answer.status;
     Ok(Seen { status, out, errs })
 }
 
 /// Runs a search of the file from this source, with nothing failing.
-fn search(alloc: Global, file: &str, source: &str) -> Result<Seen, Fail> {
+fn search<W: Wait + AllocGlobal>(rt: &W, file: &str, source: &str) -> Result<Seen, Fail> {
+    let alloc = rt.alloc();
     let words = ["bfs", "B", "--source", source];
-    run(alloc, &words, file, Vec::new(alloc), Vec::new(alloc))
+    run(rt, &words, file, Vec::new(alloc), Vec::new(alloc))
 }
 
 #[test]
@@ -78,7 +123,7 @@ fn a_search_prints_the_least_number_of_arcs_to_each_vertex(rt: HostRuntime) -> R
         ("4 2\r\n2\r\n\t1  3\r\n2\n\n \n", "1", "0\n1\n2\n-\n"),
     ];
     for (file, source, text) in cases {
-        let seen = search(rt.alloc(), file, source)?;
+        let seen = search(&rt, file, source)?;
         assert_eq!(rt; seen.status, Status::Ok);
         assert_eq!(rt; seen.out.text(), text.as_bytes());
         assert_eq!(rt; seen.errs.text(), b"".as_slice());
@@ -96,7 +141,7 @@ fn a_source_that_is_no_vertex_is_refused(rt: HostRuntime) -> Result<(), Fail> {
         ("0 0\n", "1", "source 1: not in the graph\n"),
     ];
     for (file, source, line) in cases {
-        let seen = search(rt.alloc(), file, source)?;
+        let seen = search(&rt, file, source)?;
         assert_eq!(rt; seen.status, Status::BadSource);
         assert_eq!(rt; seen.out.text(), b"".as_slice());
         assert_eq!(rt; seen.errs.text(), line.as_bytes());
@@ -125,7 +170,7 @@ fn a_malformed_file_is_refused_with_its_first_faulty_line(rt: HostRuntime) -> Re
         ("2 1 1\n2 5\n1 6\n", "line 2: MirrorWeight\n"),
     ];
     for (file, line) in cases {
-        let seen = search(rt.alloc(), file, "1")?;
+        let seen = search(&rt, file, "1")?;
         assert_eq!(rt; seen.status, Status::BadGraph);
         assert_eq!(rt; seen.out.text(), b"".as_slice());
         assert_eq!(rt; seen.errs.text(), line.as_bytes());
@@ -133,18 +178,59 @@ fn a_malformed_file_is_refused_with_its_first_faulty_line(rt: HostRuntime) -> Re
     Ok(())
 }
 
+/// The words of a line, which has a space after each.
+fn words_of<'a>(alloc: Global, line: &'a str) -> Result<Vec<&'a str>, Fail> {
+    let mut words = Vec::new(alloc);
+    for word in line.split_terminator(' ') {
+        words.push(word)?;
+    }
+    Ok(words)
+}
+
+#[test]
+fn the_words_of_a_search_may_stand_in_any_order(rt: HostRuntime) -> Result<(), Fail> {
+    let alloc = rt.alloc();
+    for line in [
+        "bfs B --source 1 ",
+        "bfs B --source=01 ",
+        "bfs --source 1 B ",
+        "--source=1 bfs B ",
+        "--source 1 bfs -- B ",
+        "bfs B --source 1 -- ",
+    ] {
+        let words = words_of(alloc, line)?;
+        let seen = run(&rt, &words, PATH, Vec::new(alloc), Vec::new(alloc))?;
+        assert_eq!(rt; seen.status, Status::Ok);
+        assert_eq!(rt; seen.out.text(), b"0\n1\n2\n".as_slice());
+        assert_eq!(rt; seen.errs.text(), b"".as_slice());
+    }
+    Ok(())
+}
+
 #[test]
 fn words_that_are_no_command_line_are_refused(rt: HostRuntime) -> Result<(), Fail> {
     let alloc = rt.alloc();
-    let cases = [
-        ["bfs", "B", "--source", "x"],
-        ["sssp", "B", "--source", "1"],
-        ["bfs", "-B", "--source", "1"],
-        ["bfs", "B", "--sources", "1"],
-        ["bfs", "B", "--source", "4294967296"],
-    ];
-    for words in cases {
-        let seen = run(alloc, &words, PATH, Vec::new(alloc), Vec::new(alloc))?;
+    for line in [
+        "",
+        "bfs B ",
+        "bfs --source 1 ",
+        "bfs B --source ",
+        "bfs B --source x ",
+        "bfs B --source -1 ",
+        "bfs B --source -- 1 ",
+        "bfs B --source 4294967296 ",
+        "bfs B --source 1 --source 1 ",
+        "bfs B --sources 1 ",
+        "bfs -B --source 1 ",
+        "bfs B B --source 1 ",
+        "bfs B --source 1 --delta 4 ",
+        "bfs B --source 1 --ranks 33 ",
+        "components B --source 1 ",
+        "sssp B --source 1 ",
+        "--help ",
+    ] {
+        let words = words_of(alloc, line)?;
+        let seen = run(&rt, &words, PATH, Vec::new(alloc), Vec::new(alloc))?;
         assert_eq!(rt; seen.status, Status::BadWords);
         assert_eq!(rt; seen.out.text(), b"".as_slice());
         assert_eq!(rt; seen.errs.text(), b"bad words\n".as_slice());
@@ -153,28 +239,11 @@ fn words_that_are_no_command_line_are_refused(rt: HostRuntime) -> Result<(), Fai
 }
 
 #[test]
-fn words_that_end_early_are_refused(rt: HostRuntime) -> Result<(), Fail> {
-    let alloc = rt.alloc();
-    let words = ["bfs", "B"];
-    let seen = run(alloc, &words, PATH, Vec::new(alloc), Vec::new(alloc))?;
-    assert_eq!(rt; seen.status, Status::BadWords);
-    assert_eq!(rt; seen.out.text(), b"".as_slice());
-    assert_eq!(rt; seen.errs.text(), b"bad words\n".as_slice());
-    Ok(())
-}
-
-#[test]
 fn a_failed_or_missing_read_is_told(rt: HostRuntime) -> Result<(), Fail> {
     let alloc = rt.alloc();
     for (name, failing) in [("B", 1), ("B", 2), ("B", 9), ("C", 50)] {
         let words = ["bfs", name, "--source", "1"];
-        let seen = run(
-            alloc,
-            &words,
-            PATH,
-            vec![in alloc; failing]?,
-            Vec::new(alloc),
-        )?;
+        let seen = run(&rt, &words, PATH, vec![in alloc; failing]?, Vec::new(alloc))?;
         assert_eq!(rt; seen.status, Status::ReadFault);
         assert_eq!(rt; seen.out.text(), b"".as_slice());
         assert_eq!(rt; seen.errs.text(), b"cannot read\n".as_slice());
@@ -193,7 +262,7 @@ fn a_failed_write_leaves_a_front_of_the_text(rt: HostRuntime) -> Result<(), Fail
         (3, 9, "0\n1\n2\n"),
     ] {
         let seen = run(
-            alloc,
+            &rt,
             &words,
             PATH,
             Vec::new(alloc),
@@ -202,6 +271,72 @@ fn a_failed_write_leaves_a_front_of_the_text(rt: HostRuntime) -> Result<(), Fail
         assert_eq!(rt; seen.status, Status::WriteFault);
         assert_eq!(rt; seen.out.text(), text.as_bytes());
         assert_eq!(rt; seen.errs.text(), b"cannot write\n".as_slice());
+    }
+    Ok(())
+}
+
+#[test]
+fn no_name_is_begun_but_that_of_the_plan(rt: HostRuntime) -> Result<(), Fail> {
+    let alloc = rt.alloc();
+    for (line, begun) in [
+        ("bfs B --source 1 ", 1),
+        ("bfs B --source 9 ", 1),
+        ("bfs B ", 0),
+        ("bfs B --source x ", 0),
+        ("bfs B --source 1 --threads 1 ", 0),
+        ("bfs B --source 1 --ranks 2 ", 1),
+        ("sssp B --source 1 ", 0),
+    ] {
+        let file = Vec::from_slice(alloc, PATH.as_bytes())?;
+        let files = vec![in alloc; (String::from_str(alloc, "B")?, file)]?;
+        let mut inputs = CountingInputs {
+            inner: MemoryInputs::new(files, 8, Vec::new(alloc)),
+            begun: 0,
+            others: 0,
+        };
+        let mut out = MemorySink::new(alloc, ROOM, Vec::new(alloc))?;
+        let mut errs = MemorySink::new(alloc, ROOM, Vec::new(alloc))?;
+        let words = texts(alloc, &words_of(alloc, line)?)?;
+        let _ = command(
+            &rt,
+            alloc,
+            &words,
+            &mut inputs,
+            &mut out,
+            &mut errs,
+            &OpenGate,
+        );
+        assert_eq!(rt; (inputs.begun, inputs.others), (begun, 0), "{line}");
+    }
+    Ok(())
+}
+
+#[test]
+fn every_number_of_ranks_and_every_capacity_prints_the_same(rt: HostRuntime) -> Result<(), Fail> {
+    let alloc = rt.alloc();
+    for (file, source, text) in [
+        (PATH, "2", "1\n0\n1\n"),
+        (MESH, "1", "0\n1\n1\n2\n1\n2\n3\n"),
+        (LONG_PATH, "6", "5\n4\n3\n2\n1\n0\n"),
+        (WEIGHTED, "1", "0\n1\n2\n-\n"),
+    ] {
+        for ranks in ["1", "2", "3", "7", "32"] {
+            for capacity in ["1", "1024"] {
+                let words = [
+                    "bfs",
+                    "B",
+                    "--source",
+                    source,
+                    "--ranks",
+                    ranks,
+                    "--capacity",
+                    capacity,
+                ];
+                let seen = run(&rt, &words, file, Vec::new(alloc), Vec::new(alloc))?;
+                assert_eq!(rt; seen.status, Status::Ok);
+                assert_eq!(rt; seen.out.text(), text.as_bytes(), "{ranks} {capacity}");
+            }
+        }
     }
     Ok(())
 }

@@ -1,6 +1,6 @@
 use Rattle.std.proofs.Common.{◌≡◌, [], arith, slice_index, vec_capacity}
 use Rattle.pg_adj.specs.declared.ghosts.GhostList.{GhostList}
-use Rattle.pg_adj.proofs.Laws.{each_push}
+use Rattle.pg_adj.proofs.Sharings.{each_push}
 use Rattle.pg_adj.proofs.ghosts.empty_lists.Goals as goal
 
 pub loop-count-preserved : goal.loop-count-preserved

@@ -9,8 +9,8 @@ use Rattle.pg_adj.proofs.ghosts.ghosts_by_rank.Goals as goal
 
 pub loop-k-init : goal.loop-k-init
 loop-k-init g c =
-    let ranks : c.count.result ≡ g.D.Distribution.ranks c.args.dist.now = omega (arith, c.count.ensures.value, c.ranks.ensures) in
-    let size : length c.deref.result.now ≡ g.D.Distribution.ranks c.args.dist.now = omega (arith, ap length c.deref.ensures.value, c.in_ok-ghost_counts.ensures.each, ranks) in
+    let ranks : c.count.result ≡ (g.D.Distribution.sharing c.args.dist.now).ranks = omega (arith, c.count.ensures.value, c.ranks.ensures) in
+    let size : length c.deref.result.now ≡ (g.D.Distribution.sharing c.args.dist.now).ranks = omega (arith, ap length c.deref.ensures.value, c.in_ok-ghost_counts.ensures.each, ranks) in
     record {
       count = c.in_ok-lists.ensures.each ∙ size;
       list = λ r d l. c.in_ok-lists.ensures.list r d (omega (arith, size));
@@ -20,7 +20,7 @@ loop-k-init g c =
 
 pub push_ghost-requires-clause-room : goal.push_ghost-requires-clause-room
 push_ghost-requires-clause-room g c =
-    room_for_next (ghost_of (g.D.Distribution.owner c.args.dist.now) (g.D.Distribution.local c.args.dist.now)) c.args.sets.now c.loop-k.k (g.D.Distribution.ranks c.args.dist.now)
+    room_for_next (ghost_of (g.D.Distribution.sharing c.args.dist.now).owner (g.D.Distribution.sharing c.args.dist.now).local) c.args.sets.now c.loop-k.k (g.D.Distribution.sharing c.args.dist.now).ranks
     c.loop-k.lists.items c.deref_mut.result.now (omega arith) c.deref_mut.ensures.value c.loop-k.invariant.count c.loop-k.invariant.list c.loop-k.invariant.room
 
 pub loop-k-preserved : goal.loop-k-preserved
@@ -31,9 +31,9 @@ loop-k-preserved g c =
     let put : (with_items c.loop-k.lists done).items ≡ done = with_items_is c.loop-k.lists done (omega (arith, size, c.loop-k.lists.ok.0)) in
     record {
       count = ap length put ∙ (size ∙ c.loop-k.invariant.count);
-      list = lists_more (ghost_of (g.D.Distribution.owner c.args.dist.now) (g.D.Distribution.local c.args.dist.now)) c.args.sets.now c.loop-k.k (get_or c.args.sets.now c.loop-k.k no_ranks)
-          c.ghost_at.result (g.D.Distribution.ranks c.args.dist.now) was c.deref_mut.result.now done (with_items c.loop-k.lists done).items (omega arith) refl c.ghost_at.ensures
+      list = lists_more (ghost_of (g.D.Distribution.sharing c.args.dist.now).owner (g.D.Distribution.sharing c.args.dist.now).local) c.args.sets.now c.loop-k.k (get_or c.args.sets.now c.loop-k.k no_ranks)
+          c.ghost_at.result (g.D.Distribution.sharing c.args.dist.now).ranks was c.deref_mut.result.now done (with_items c.loop-k.lists done).items (omega arith) refl c.ghost_at.ensures
           c.deref_mut.ensures.value put c.loop-k.invariant.count c.loop-k.invariant.list c.push_ghost.ensures.pushed;
-      room = rooms_more was c.deref_mut.result.now done (with_items c.loop-k.lists done).items (g.D.Distribution.ranks c.args.dist.now)
+      room = rooms_more was c.deref_mut.result.now done (with_items c.loop-k.lists done).items (g.D.Distribution.sharing c.args.dist.now).ranks
           (λ r. length (held_up_to c.args.sets.now r (length c.args.sets.now))) c.deref_mut.ensures.value put c.loop-k.invariant.count c.loop-k.invariant.room c.push_ghost.ensures.room;
     }

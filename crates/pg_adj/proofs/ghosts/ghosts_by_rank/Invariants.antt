@@ -7,8 +7,8 @@ use Rattle.pg_adj.proofs.ghosts.ghosts_by_rank.Given as goal
 
 abbrev pub invariant-loop-k : goal.invariant-loop-k
 invariant-loop-k g l = record {
-  count : length l.lists.items ≡ g.D.Distribution.ranks l.dist;
-  list : (r : ℕ) (d : GhostList) → r < g.D.Distribution.ranks l.dist
-      → (slice_index_or l.lists.items r d).ghosts.items ≡ map (ghost_of (g.D.Distribution.owner l.dist) (g.D.Distribution.local l.dist)) (held_up_to l.sets r l.k);
-  room : (r : ℕ) (d : GhostList) → r < g.D.Distribution.ranks l.dist → room_of l.lists.items r d ≡ length (held_up_to l.sets r (length l.sets));
+  count : length l.lists.items ≡ (g.D.Distribution.sharing l.dist).ranks;
+  list : (r : ℕ) (d : GhostList) → r < (g.D.Distribution.sharing l.dist).ranks
+      → (slice_index_or l.lists.items r d).ghosts.items ≡ map (ghost_of (g.D.Distribution.sharing l.dist).owner (g.D.Distribution.sharing l.dist).local) (held_up_to l.sets r l.k);
+  room : (r : ℕ) (d : GhostList) → r < (g.D.Distribution.sharing l.dist).ranks → room_of l.lists.items r d ≡ length (held_up_to l.sets r (length l.sets));
 }

@@ -5,9 +5,9 @@ use Rattle.pg_base.specs.Graph.{IsEdge}
 use Rattle.pg_base.proofs.KeyedRows.{kept_whole}
 use Rattle.pg_adj.specs.declared.rows.ArcRows.{ArcRows}
 use Rattle.pg_adj.specs.declared.rank_sets.RankSet.{RankSet}
-use Rattle.pg_adj.specs.Division.{Sharing, AreRows, arcs_at}
+use Rattle.pg_dist.specs.Sharing.{Sharing, IsSharing}
+use Rattle.pg_adj.specs.Division.{AreRows, arcs_at}
 use Rattle.pg_adj.specs.RankSets.{has}
-use Rattle.pg_adj.proofs.Laws.{Laws}
 use Rattle.pg_adj.proofs.RankSets.{members_within}
 use Rattle.pg_adj.proofs.Homes.{abroad_is_home, homes_few, no_home}
 use Rattle.pg_adj.proofs.HomeSets.{sets_more}
@@ -15,25 +15,8 @@ use Rattle.pg_adj.proofs.ghosts.holding_ranks.Goals as goal
 
 pub set_holding_ranks-requires-clause-homes : goal.set_holding_ranks-requires-clause-homes
 set_holding_ranks-requires-clause-homes g c =
-    let s : Sharing = record {
-      n = g.D.Distribution.n c.args.dist.now;
-      ranks = g.D.Distribution.ranks c.args.dist.now;
-      owner = g.D.Distribution.owner c.args.dist.now;
-      local = g.D.Distribution.local c.args.dist.now;
-      count = g.D.Distribution.count c.args.dist.now;
-      global = g.D.Distribution.global c.args.dist.now;
-    } in
-    let laws : Laws s = record {
-      n_within = g.met.D.Distribution.n_within c.args.dist.now;
-      owner_is_rank = g.met.D.Distribution.owner_is_rank c.args.dist.now;
-      local_below = g.met.D.Distribution.local_below c.args.dist.now;
-      global_of_local = g.met.D.Distribution.global_of_local c.args.dist.now;
-      global_first = g.met.D.Distribution.global_first c.args.dist.now;
-      global_last = g.met.D.Distribution.global_last c.args.dist.now;
-      owner_of_global = g.met.D.Distribution.owner_of_global c.args.dist.now;
-      local_of_global = g.met.D.Distribution.local_of_global c.args.dist.now;
-      global_ascends = g.met.D.Distribution.global_ascends c.args.dist.now;
-    } in
+    let s : Sharing = g.D.Distribution.sharing c.args.dist.now in
+    let laws : IsSharing s = g.met.D.Distribution.laws c.args.dist.now in
     let edges : List Edge = c.args.graph.now.edges in
     let within : All (IsEdge s.n) edges = subst (λ (n : ℕ). All (IsEdge n) edges) c.requires.n c.n.ensures.graph.within in
     let own : ArcRows = c.index-rows-rank.result in
@@ -44,25 +27,8 @@ set_holding_ranks-requires-clause-homes g c =
 
 pub loop-rank-preserved : goal.loop-rank-preserved
 loop-rank-preserved g c =
-    let s : Sharing = record {
-      n = g.D.Distribution.n c.args.dist.now;
-      ranks = g.D.Distribution.ranks c.args.dist.now;
-      owner = g.D.Distribution.owner c.args.dist.now;
-      local = g.D.Distribution.local c.args.dist.now;
-      count = g.D.Distribution.count c.args.dist.now;
-      global = g.D.Distribution.global c.args.dist.now;
-    } in
-    let laws : Laws s = record {
-      n_within = g.met.D.Distribution.n_within c.args.dist.now;
-      owner_is_rank = g.met.D.Distribution.owner_is_rank c.args.dist.now;
-      local_below = g.met.D.Distribution.local_below c.args.dist.now;
-      global_of_local = g.met.D.Distribution.global_of_local c.args.dist.now;
-      global_first = g.met.D.Distribution.global_first c.args.dist.now;
-      global_last = g.met.D.Distribution.global_last c.args.dist.now;
-      owner_of_global = g.met.D.Distribution.owner_of_global c.args.dist.now;
-      local_of_global = g.met.D.Distribution.local_of_global c.args.dist.now;
-      global_ascends = g.met.D.Distribution.global_ascends c.args.dist.now;
-    } in
+    let s : Sharing = g.D.Distribution.sharing c.args.dist.now in
+    let laws : IsSharing s = g.met.D.Distribution.laws c.args.dist.now in
     let edges : List Edge = c.args.graph.now.edges in
     let own : ArcRows = c.index-rows-rank.result in
     let rows : AreRows (λ i. arcs_at s edges (s.global c.loop-rank.rank i)) (s.count c.loop-rank.rank) own.bounds.items own.arcs.items =
@@ -82,25 +48,8 @@ loop-rank-preserved g c =
 
 pub returns-clause-ranks : goal.returns-clause-ranks
 returns-clause-ranks g c =
-    let s : Sharing = record {
-      n = g.D.Distribution.n c.args.dist.now;
-      ranks = g.D.Distribution.ranks c.args.dist.now;
-      owner = g.D.Distribution.owner c.args.dist.now;
-      local = g.D.Distribution.local c.args.dist.now;
-      count = g.D.Distribution.count c.args.dist.now;
-      global = g.D.Distribution.global c.args.dist.now;
-    } in
-    let laws : Laws s = record {
-      n_within = g.met.D.Distribution.n_within c.args.dist.now;
-      owner_is_rank = g.met.D.Distribution.owner_is_rank c.args.dist.now;
-      local_below = g.met.D.Distribution.local_below c.args.dist.now;
-      global_of_local = g.met.D.Distribution.global_of_local c.args.dist.now;
-      global_first = g.met.D.Distribution.global_first c.args.dist.now;
-      global_last = g.met.D.Distribution.global_last c.args.dist.now;
-      owner_of_global = g.met.D.Distribution.owner_of_global c.args.dist.now;
-      local_of_global = g.met.D.Distribution.local_of_global c.args.dist.now;
-      global_ascends = g.met.D.Distribution.global_ascends c.args.dist.now;
-    } in
+    let s : Sharing = g.D.Distribution.sharing c.args.dist.now in
+    let laws : IsSharing s = g.met.D.Distribution.laws c.args.dist.now in
     let edges : List Edge = c.args.graph.now.edges in
     let within : All (IsEdge s.n) edges = subst (λ (n : ℕ). All (IsEdge n) edges) c.requires.n c.n.ensures.graph.within in
     λ k d l.
@@ -111,25 +60,8 @@ returns-clause-ranks g c =
 
 pub returns-clause-sets : goal.returns-clause-sets
 returns-clause-sets g c =
-    let s : Sharing = record {
-      n = g.D.Distribution.n c.args.dist.now;
-      ranks = g.D.Distribution.ranks c.args.dist.now;
-      owner = g.D.Distribution.owner c.args.dist.now;
-      local = g.D.Distribution.local c.args.dist.now;
-      count = g.D.Distribution.count c.args.dist.now;
-      global = g.D.Distribution.global c.args.dist.now;
-    } in
-    let laws : Laws s = record {
-      n_within = g.met.D.Distribution.n_within c.args.dist.now;
-      owner_is_rank = g.met.D.Distribution.owner_is_rank c.args.dist.now;
-      local_below = g.met.D.Distribution.local_below c.args.dist.now;
-      global_of_local = g.met.D.Distribution.global_of_local c.args.dist.now;
-      global_first = g.met.D.Distribution.global_first c.args.dist.now;
-      global_last = g.met.D.Distribution.global_last c.args.dist.now;
-      owner_of_global = g.met.D.Distribution.owner_of_global c.args.dist.now;
-      local_of_global = g.met.D.Distribution.local_of_global c.args.dist.now;
-      global_ascends = g.met.D.Distribution.global_ascends c.args.dist.now;
-    } in
+    let s : Sharing = g.D.Distribution.sharing c.args.dist.now in
+    let laws : IsSharing s = g.met.D.Distribution.laws c.args.dist.now in
     let edges : List Edge = c.args.graph.now.edges in
     let within : All (IsEdge s.n) edges = subst (λ (n : ℕ). All (IsEdge n) edges) c.requires.n c.n.ensures.graph.within in
     λ r k d e rank inside.

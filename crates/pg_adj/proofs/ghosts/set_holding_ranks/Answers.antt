@@ -3,32 +3,14 @@ use Rattle.std.specs.List.{list_any}
 use Rattle.pg_base.specs.Keyed.{row_of}
 use Rattle.std.proofs.lemmas.List.{length-set}
 use Rattle.pg_adj.specs.declared.arcs.Arc.{Arc}
-use Rattle.pg_adj.specs.Division.{Sharing}
-use Rattle.pg_adj.proofs.Laws.{Laws}
+use Rattle.pg_dist.specs.Sharing.{Sharing, IsSharing}
 use Rattle.pg_adj.proofs.HomeSets.{sets_put, others_kept, row_by_key}
 use Rattle.pg_adj.proofs.ghosts.set_holding_ranks.Goals as goal
 
 pub loop-i-preserved : goal.loop-i-preserved
 loop-i-preserved g c =
-    let s : Sharing = record {
-      n = g.D.Distribution.n c.args.dist.now;
-      ranks = g.D.Distribution.ranks c.args.dist.now;
-      owner = g.D.Distribution.owner c.args.dist.now;
-      local = g.D.Distribution.local c.args.dist.now;
-      count = g.D.Distribution.count c.args.dist.now;
-      global = g.D.Distribution.global c.args.dist.now;
-    } in
-    let laws : Laws s = record {
-      n_within = g.met.D.Distribution.n_within c.args.dist.now;
-      owner_is_rank = g.met.D.Distribution.owner_is_rank c.args.dist.now;
-      local_below = g.met.D.Distribution.local_below c.args.dist.now;
-      global_of_local = g.met.D.Distribution.global_of_local c.args.dist.now;
-      global_first = g.met.D.Distribution.global_first c.args.dist.now;
-      global_last = g.met.D.Distribution.global_last c.args.dist.now;
-      owner_of_global = g.met.D.Distribution.owner_of_global c.args.dist.now;
-      local_of_global = g.met.D.Distribution.local_of_global c.args.dist.now;
-      global_ascends = g.met.D.Distribution.global_ascends c.args.dist.now;
-    } in
+    let s : Sharing = g.D.Distribution.sharing c.args.dist.now in
+    let laws : IsSharing s = g.met.D.Distribution.laws c.args.dist.now in
     let row : ℕ → List Arc = λ j. row_of c.args.own.now.bounds.items c.args.own.now.arcs.items j in
     let abroad : ℕ → Arc → Bool = λ r a. a.home.0 == r && not (a.home.0 == c.args.rank.0) in
     let place : c.loop-i.i < s.count c.args.rank.0 = omega (arith, c.count-i-end.ensures) in

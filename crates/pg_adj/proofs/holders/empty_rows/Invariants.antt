@@ -7,6 +7,6 @@ invariant-loop-r g l = record {
   count : length l.rows.items ≡ l.r;
   row : (r : ℕ) (d : HolderRows) → r < l.r → (slice_index_or l.rows.items r d).bounds.items ≡ 0 ∷ [];
   empty : (r : ℕ) (d : HolderRows) → r < l.r → (slice_index_or l.rows.items r d).holders.items ≡ [];
-  places : (r : ℕ) (d : HolderRows) → r < l.r → vec_capacity (slice_index_or l.rows.items r d).bounds ≡ g.D.Distribution.count l.dist r + 1;
+  places : (r : ℕ) (d : HolderRows) → r < l.r → vec_capacity (slice_index_or l.rows.items r d).bounds ≡ (g.D.Distribution.sharing l.dist).count r + 1;
   room : (r : ℕ) (d : HolderRows) → r < l.r → vec_capacity (slice_index_or l.rows.items r d).holders ≡ slice_index l.counts r;
 }

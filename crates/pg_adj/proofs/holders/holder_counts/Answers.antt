@@ -15,8 +15,8 @@ overflow_add-index_mut g c =
       held,
       c.requires.each,
       c.len.ensures.most,
-      g.met.D.Distribution.n_within c.args.dist.now,
-      holders-le c.args.sets.now (g.D.Distribution.owner c.args.dist.now) q c.loop-k.k,
+      (g.met.D.Distribution.laws c.args.dist.now).n_within,
+      holders-le c.args.sets.now (g.D.Distribution.sharing c.args.dist.now).owner q c.loop-k.k,
     ) in
     search rules
 
@@ -27,11 +27,11 @@ loop-k-preserved g c =
     let was : c.index_mut.result.now ≡ get_or c.loop-k.counts.items q 0 = c.index_mut.ensures.value ∙ get_or_default c.loop-k.counts.items q _ 0 below in
     record {
       each = length-set c.loop-k.counts.items q (c.index_mut.result.now + c.len.result) ∙ c.loop-k.invariant.each;
-      held = counts_more c.args.sets.now (g.D.Distribution.owner c.args.dist.now) (g.D.Distribution.ranks c.args.dist.now) c.loop-k.k q c.index_mut.result.now c.len.result
+      held = counts_more c.args.sets.now (g.D.Distribution.sharing c.args.dist.now).owner (g.D.Distribution.sharing c.args.dist.now).ranks c.loop-k.k q c.index_mut.result.now c.len.result
           c.loop-k.counts.items c.owner-owner.ensures below was c.len.ensures.value c.loop-k.invariant.held c.loop-k.invariant.each;
     }
 
 pub returns-clause-held : goal.returns-clause-held
 returns-clause-held g c =
-    let all : c.loop-k.k ≡ g.D.Distribution.n c.args.dist.now = omega (arith, c.requires.each, c.loop-k.auto.k-end) in
-    λ r l. subst (λ (k : ℕ). slice_index c.loop-k.counts.items r ≡ holders_to c.args.sets.now (g.D.Distribution.owner c.args.dist.now) r k) all (c.loop-k.invariant.held r l)
+    let all : c.loop-k.k ≡ (g.D.Distribution.sharing c.args.dist.now).n = omega (arith, c.requires.each, c.loop-k.auto.k-end) in
+    λ r l. subst (λ (k : ℕ). slice_index c.loop-k.counts.items r ≡ holders_to c.args.sets.now (g.D.Distribution.sharing c.args.dist.now).owner r k) all (c.loop-k.invariant.held r l)

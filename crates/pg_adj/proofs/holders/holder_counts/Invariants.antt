@@ -4,6 +4,6 @@ use Rattle.pg_adj.proofs.holders.holder_counts.Given as goal
 
 abbrev pub invariant-loop-k : goal.invariant-loop-k
 invariant-loop-k g l = record {
-  each : length l.counts.items ≡ g.D.Distribution.ranks l.dist;
-  held : (r : ℕ) → r < g.D.Distribution.ranks l.dist → slice_index l.counts.items r ≡ holders_to l.sets (g.D.Distribution.owner l.dist) r l.k;
+  each : length l.counts.items ≡ (g.D.Distribution.sharing l.dist).ranks;
+  held : (r : ℕ) → r < (g.D.Distribution.sharing l.dist).ranks → slice_index l.counts.items r ≡ holders_to l.sets (g.D.Distribution.sharing l.dist).owner r l.k;
 }

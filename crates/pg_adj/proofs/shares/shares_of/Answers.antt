@@ -3,8 +3,8 @@ use Rattle.std.specs.Vec.Iter.{into_iter_items}
 use Rattle.std.proofs.lemmas.List.{length_push}
 use Rattle.pg_adj.specs.declared.ghosts.GhostList.{GhostList}
 use Rattle.pg_adj.specs.declared.shares.Share.{Share}
-use Rattle.pg_adj.specs.Division.{Sharing}
-use Rattle.pg_adj.proofs.Laws.{each_push}
+use Rattle.pg_dist.specs.Sharing.{Sharing}
+use Rattle.pg_adj.proofs.Sharings.{each_push}
 use Rattle.pg_adj.proofs.SharesOf.{IsOfRank, of_rank, ghosts_of_list}
 use Rattle.pg_adj.proofs.SideBySide.{next_pair, yielded_more, yielded_all}
 use Rattle.pg_adj.proofs.shares.shares_of.Goals as goal
@@ -33,14 +33,7 @@ own_vertices-requires g c =
 
 pub loop-own-preserved : goal.loop-own-preserved
 loop-own-preserved g c =
-    let s : Sharing = record {
-      n = g.D.Distribution.n c.args.dist.now;
-      ranks = g.D.Distribution.ranks c.args.dist.now;
-      owner = g.D.Distribution.owner c.args.dist.now;
-      local = g.D.Distribution.local c.args.dist.now;
-      count = g.D.Distribution.count c.args.dist.now;
-      global = g.D.Distribution.global c.args.dist.now;
-    } in
+    let s : Sharing = g.D.Distribution.sharing c.args.dist.now in
     let lists : List GhostList = into_iter_items c.into_iter-own-iterator.result.b in
     let next = next_pair c.args.rows.items lists c.loop-own.yielded c.loop-own.own-iterator c.loop-own.invariant.yielded c.in-Some.own c.in-Some.list c.next.new.self
     c.in-Some.ensures.steps in
@@ -69,7 +62,7 @@ returns g c =
     let same : lists ≡ c.in_ok-lists.lists.items = ap (λ z. into_iter_items z.b) c.into_iter-own-iterator.ensures.into_iter_gives ∙ c.zip-own-items.ensures.second.0 in
     let size : length c.args.rows.items ≡ length lists = omega (arith, ap length same, c.requires.count, c.in_ok-lists.ensures.count) in
     let all = yielded_all c.args.rows.items lists c.loop-own.yielded c.loop-own.own-iterator c.loop-own.invariant.yielded size c.in-None.ensures.steps in
-    let count : length c.loop-own.yielded ≡ g.D.Distribution.ranks c.args.dist.now = all.0 ∙ c.requires.count in
+    let count : length c.loop-own.yielded ≡ (g.D.Distribution.sharing c.args.dist.now).ranks = all.0 ∙ c.requires.count in
     record {
       count = c.loop-own.invariant.count ∙ count;
       own = λ r d l. (c.loop-own.invariant.share r d (omega (arith, count))).count;

@@ -8,14 +8,7 @@ use Rattle.pg_adj.proofs.shares.shares_of.Given as goal
 abbrev pub invariant-loop-own : goal.invariant-loop-own
 invariant-loop-own g l = record {
   count : length l.shares.items ≡ length l.yielded;
-  share : (r : ℕ) (d : Share) → r < length l.yielded → IsOfRank (record {
-    n = g.D.Distribution.n l.dist;
-    ranks = g.D.Distribution.ranks l.dist;
-    owner = g.D.Distribution.owner l.dist;
-    local = g.D.Distribution.local l.dist;
-    count = g.D.Distribution.count l.dist;
-    global = g.D.Distribution.global l.dist;
-  })
+  share : (r : ℕ) (d : Share) → r < length l.yielded → IsOfRank (g.D.Distribution.sharing l.dist)
       l.fn.rows.items l.sets r (slice_index_or l.shares.items r d);
   yielded : AreYielded l.fn.rows.items (into_iter_items l.initial.own-iterator.b) l.yielded l.own-iterator;
 }

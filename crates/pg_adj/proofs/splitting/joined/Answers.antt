@@ -2,9 +2,10 @@ use Rattle.std.proofs.Common.{arith, rules, ap, subst, sym, length, get_or, map,
 use Rattle.std.proofs.lemmas.List.{length_push}
 use Rattle.pg_adj.specs.declared.arcs.Ghost.{Ghost}
 use Rattle.pg_adj.specs.Portions.{Portion}
-use Rattle.pg_adj.specs.Division.{Sharing, IsPartOf}
+use Rattle.pg_dist.specs.Sharing.{Sharing, IsSharing}
+use Rattle.pg_adj.specs.Division.{IsPartOf}
 use Rattle.pg_adj.specs.Shares.{ghost_lists}
-use Rattle.pg_adj.proofs.Laws.{Laws, each_push}
+use Rattle.pg_adj.proofs.Sharings.{each_push}
 use Rattle.pg_adj.proofs.PartsOf.{AreSharesOf, portion_of, part_is, portion_ok, lists_more}
 use Rattle.pg_adj.proofs.SideBySide.{next_pair, yielded_more, yielded_all}
 use Rattle.pg_adj.proofs.splitting.joined.Goals as goal
@@ -27,25 +28,8 @@ overflow_cast-rank g c =
 
 pub of_share-requires : goal.of_share-requires
 of_share-requires g c =
-    let s : Sharing = record {
-      n = g.D.Distribution.n c.args.dist.now;
-      ranks = g.D.Distribution.ranks c.args.dist.now;
-      owner = g.D.Distribution.owner c.args.dist.now;
-      local = g.D.Distribution.local c.args.dist.now;
-      count = g.D.Distribution.count c.args.dist.now;
-      global = g.D.Distribution.global c.args.dist.now;
-    } in
-    let laws : Laws s = record {
-      n_within = g.met.D.Distribution.n_within c.args.dist.now;
-      owner_is_rank = g.met.D.Distribution.owner_is_rank c.args.dist.now;
-      local_below = g.met.D.Distribution.local_below c.args.dist.now;
-      global_of_local = g.met.D.Distribution.global_of_local c.args.dist.now;
-      global_first = g.met.D.Distribution.global_first c.args.dist.now;
-      global_last = g.met.D.Distribution.global_last c.args.dist.now;
-      owner_of_global = g.met.D.Distribution.owner_of_global c.args.dist.now;
-      local_of_global = g.met.D.Distribution.local_of_global c.args.dist.now;
-      global_ascends = g.met.D.Distribution.global_ascends c.args.dist.now;
-    } in
+    let s : Sharing = g.D.Distribution.sharing c.args.dist.now in
+    let laws : IsSharing s = g.met.D.Distribution.laws c.args.dist.now in
     let are : AreSharesOf s c.args.graph.now.edges c.args.shares.items = record { each = c.requires.count; share = c.requires.share } in
     let next = next_pair c.args.shares.items c.args.holders.items c.loop-share.yielded c.loop-share.share-iterator c.loop-share.invariant.yielded c.in-Some.share c.in-Some.rows c.next.new.self
     c.in-Some.ensures.steps in
@@ -59,14 +43,7 @@ of_share-requires g c =
 
 pub loop-share-preserved : goal.loop-share-preserved
 loop-share-preserved g c =
-    let s : Sharing = record {
-      n = g.D.Distribution.n c.args.dist.now;
-      ranks = g.D.Distribution.ranks c.args.dist.now;
-      owner = g.D.Distribution.owner c.args.dist.now;
-      local = g.D.Distribution.local c.args.dist.now;
-      count = g.D.Distribution.count c.args.dist.now;
-      global = g.D.Distribution.global c.args.dist.now;
-    } in
+    let s : Sharing = g.D.Distribution.sharing c.args.dist.now in
     let are : AreSharesOf s c.args.graph.now.edges c.args.shares.items = record { each = c.requires.count; share = c.requires.share } in
     let next = next_pair c.args.shares.items c.args.holders.items c.loop-share.yielded c.loop-share.share-iterator c.loop-share.invariant.yielded c.in-Some.share c.in-Some.rows c.next.new.self
     c.in-Some.ensures.steps in
@@ -92,14 +69,7 @@ loop-share-preserved g c =
 
 pub returns : goal.returns
 returns g c =
-    let s : Sharing = record {
-      n = g.D.Distribution.n c.args.dist.now;
-      ranks = g.D.Distribution.ranks c.args.dist.now;
-      owner = g.D.Distribution.owner c.args.dist.now;
-      local = g.D.Distribution.local c.args.dist.now;
-      count = g.D.Distribution.count c.args.dist.now;
-      global = g.D.Distribution.global c.args.dist.now;
-    } in
+    let s : Sharing = g.D.Distribution.sharing c.args.dist.now in
     let all = yielded_all c.args.shares.items c.args.holders.items c.loop-share.yielded c.loop-share.share-iterator c.loop-share.invariant.yielded (c.requires.count ∙ sym c.requires.each)
     c.in-None.ensures.steps in
     let lists : map (λ (q : Portion). q.ghosts) c.loop-share.parts.items ≡ ghost_lists c.args.shares.items = c.loop-share.invariant.ghosts ∙ ap ghost_lists all.1 in

@@ -1,22 +1,14 @@
 use Rattle.std.proofs.Common.{◌∙◌, List, length, get_or, ap, subst, sym}
 use Rattle.pg_adj.specs.declared.rank_sets.RankSet.{RankSet}
 use Rattle.pg_adj.specs.declared.shares.Share.{Share}
-use Rattle.pg_adj.specs.Division.{Sharing}
+use Rattle.pg_dist.specs.Sharing.{Sharing, IsSharing}
 use Rattle.pg_adj.specs.RankSets.{HaveRanksBelow}
-use Rattle.pg_adj.proofs.Laws.{Laws}
 use Rattle.pg_adj.proofs.SplitBySets.{share_of_sets, holders_of_sets}
 use Rattle.pg_adj.proofs.splitting.parts_of.Goals as goal
 
 pub joined-requires-clause-share : goal.joined-requires-clause-share
 joined-requires-clause-share g c = λ r d l.
-    let s : Sharing = record {
-      n = g.D.Distribution.n c.args.dist.now;
-      ranks = g.D.Distribution.ranks c.args.dist.now;
-      owner = g.D.Distribution.owner c.args.dist.now;
-      local = g.D.Distribution.local c.args.dist.now;
-      count = g.D.Distribution.count c.args.dist.now;
-      global = g.D.Distribution.global c.args.dist.now;
-    } in
+    let s : Sharing = g.D.Distribution.sharing c.args.dist.now in
     let shares : List Share = c.in_ok-shares.shares.items in
     share_of_sets s c.args.graph.now.edges c.in_ok-rows.rows.items c.deref.result.now c.in_ok-sets.sets.items c.deref-2.result.now r d.rows (get_or shares r d)
     c.deref.ensures.value c.deref-2.ensures.value l
@@ -30,25 +22,8 @@ joined-requires-clause-share g c = λ r d l.
 
 pub joined-requires-clause-holders : goal.joined-requires-clause-holders
 joined-requires-clause-holders g c = λ r d l.
-    let s : Sharing = record {
-      n = g.D.Distribution.n c.args.dist.now;
-      ranks = g.D.Distribution.ranks c.args.dist.now;
-      owner = g.D.Distribution.owner c.args.dist.now;
-      local = g.D.Distribution.local c.args.dist.now;
-      count = g.D.Distribution.count c.args.dist.now;
-      global = g.D.Distribution.global c.args.dist.now;
-    } in
-    let laws : Laws s = record {
-      n_within = g.met.D.Distribution.n_within c.args.dist.now;
-      owner_is_rank = g.met.D.Distribution.owner_is_rank c.args.dist.now;
-      local_below = g.met.D.Distribution.local_below c.args.dist.now;
-      global_of_local = g.met.D.Distribution.global_of_local c.args.dist.now;
-      global_first = g.met.D.Distribution.global_first c.args.dist.now;
-      global_last = g.met.D.Distribution.global_last c.args.dist.now;
-      owner_of_global = g.met.D.Distribution.owner_of_global c.args.dist.now;
-      local_of_global = g.met.D.Distribution.local_of_global c.args.dist.now;
-      global_ascends = g.met.D.Distribution.global_ascends c.args.dist.now;
-    } in
+    let s : Sharing = g.D.Distribution.sharing c.args.dist.now in
+    let laws : IsSharing s = g.met.D.Distribution.laws c.args.dist.now in
     let sets : List RankSet = c.in_ok-sets.sets.items in
     let seen : List RankSet = c.deref-2.result.now in
     let shares : List Share = c.in_ok-shares.shares.items in

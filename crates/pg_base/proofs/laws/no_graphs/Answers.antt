@@ -13,7 +13,7 @@ pub returns-clause-descending_ends : goal.returns-clause-descending_ends
 returns-clause-descending_ends c = λ is. let e = is.within 0 (edge 0 0 0) (omega arith) in omega (arith, e.ascends)
 
 pub returns-clause-no_weight : goal.returns-clause-no_weight
-returns-clause-no_weight c = λ is. let e = is.within 0 (edge 0 0 0) (omega arith) in omega (arith, e.weight)
+returns-clause-no_weight c = λ is. omega (arith, is.positive 0 (edge 0 0 0) (omega arith))
 
 pub returns-clause-first_past : goal.returns-clause-first_past
 returns-clause-first_past c = λ is. let e = is.within 0 (edge 0 0 0) (omega arith) in omega (arith, e.first)

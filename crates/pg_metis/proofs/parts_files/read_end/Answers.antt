@@ -1,10 +1,9 @@
-use Rattle.std.proofs.Common.{◌≡◌, ◌≢◌, ◌∷◌, [], List, subst, ◌∙◌, sym, ap, arith, ℕ, true, false, IfSome, Some}
+use Rattle.std.proofs.Common.{◌≡◌, ◌∷◌, [], ◌∙◌, arith, ℕ, true, false, IfSome, Some}
 use Rattle.std.proofs.lemmas.Result.{err_from_is_err_and}
-use Rattle.pg_text.specs.Text.{words}
 use Rattle.pg_metis.specs.Ahead.{content_ahead, IsPastLimit, Passes}
 use Rattle.pg_metis.specs.Content.{Content, NumberedLine}
 use Rattle.pg_metis.specs.Parts.{parts_content_fault}
-use Rattle.pg_metis.proofs.PartsReadingLemmas.{blank-passes, extra-part, no-more, past-parts}
+use Rattle.pg_metis.proofs.PartsReadingLemmas.{blank-passes, no-more, past-parts, surplus-refused}
 use Rattle.pg_metis.proofs.PartsRefusals.{long-line-passed}
 use Rattle.pg_metis.proofs.ReadingLemmas.{takes-at}
 use Rattle.pg_metis.proofs.ToldLemmas.{told-if, told-on, told-then}
@@ -22,15 +21,16 @@ returns-in_err-next_content-clause-refused g c =
     rw (p.1, p.2) (long-line-passed c.in_err-next_content.field-0.0 (λ line. IfSome b (IsPastLimit line)) (λ fault. IfSome a (λ was. (ranks : ℕ) → parts_content_fault 0 ranks was ≡ Some fault))
     (λ line past. told-if a b Same (IsPastLimit line) _ c.loop-reader.invariant.same past (λ was now same over ranks. same ranks ∙ past-parts line now over 0 ranks)) c.in_err-next_content.ensures.too_long)
 
-pub returns-then-has_word-clause-refused : goal.returns-then-has_word-clause-refused
-returns-then-has_word-clause-refused g c =
+pub returns-in_err-blank_at-clause-refused : goal.returns-in_err-blank_at-clause-refused
+returns-in_err-blank_at-clause-refused g c =
+    let p = err_from_is_err_and c.from_residual-in_err-blank_at.result c.from_residual-in_err-blank_at.ensures.1 in
     let new = c.next_content.new.reader in
     let line : NumberedLine = record { number = new.lines; bytes = new.line.items } in
-    let some = subst (λ (bytes : List ℕ). words bytes ≢ []) c.line.ensures (c.has_word.ensures.some c.if-has_word.true) in
-    told-if _ _ Same _ _ c.loop-reader.invariant.same
+    let (at, kind, some) = c.in_err-blank_at.ensures.refused in
+    rw (p.1, p.2) (told-if _ _ Same _ _ c.loop-reader.invariant.same
     (told-then _ _ _ _ (takes-at c.in_ok-next_content.field-0 true new.lines new.line.items _ _ c.if-branch.true c.in_ok-next_content.ensures.ok)
-    (λ was now passes. extra-part line c.line_number.result was now passes some (sym c.line_number.ensures.number)))
-    (λ was now same bad ranks. same ranks ∙ bad ranks)
+    (λ was now passes. surplus-refused line was now c.in_err-blank_at.field-0.0 passes some at kind))
+    (λ was now same bad ranks. same ranks ∙ bad ranks))
 
 pub loop-reader-smaller : goal.loop-reader-smaller
 loop-reader-smaller g c =
@@ -43,7 +43,7 @@ loop-reader-preserved g c =
     let inv = c.loop-reader.invariant in
     let new = c.next_content.new.reader in
     let line : NumberedLine = record { number = new.lines; bytes = new.line.items } in
-    let none = ap words (sym c.line.ensures) ∙ c.has_word.ensures.none c.if-has_word.false in
+    let none = c.in_ok-blank_at.ensures.ok in
     record {
       later = omega (arith, inv.later, c.next_content.ensures.later);
       begun = cc (c.next_content.ensures.begun, inv.begun);

@@ -1,38 +1,31 @@
-use Rattle.std.proofs.Common.{◌∙◌, sym, ap, ◌+◌, true, false, IfSome}
+use Rattle.std.proofs.Common.{true, IfSome}
 use Rattle.std.proofs.lemmas.Result.{err_from_is_err_and}
-use Rattle.pg_text.specs.Text.{numbers, words}
 use Rattle.pg_metis.specs.Ahead.{content_ahead, IsPastLimit}
-use Rattle.pg_metis.specs.Parts.{part_fault}
-use Rattle.pg_metis.proofs.PartsReadingLemmas.{bad-part, no-part, past-parts}
+use Rattle.pg_metis.proofs.PartsReadingLemmas.{part-refused, past-parts}
 use Rattle.pg_metis.proofs.PartsRefusals.{long-line-passed}
 use Rattle.pg_metis.proofs.ReadingLemmas.{takes-at}
 use Rattle.pg_metis.proofs.ToldLemmas.{if_some-weaker, told-then}
 use Rattle.pg_metis.proofs.parts_files.read_line.Goals as goal
 
-pub returns-in_err-next_content-clause-refused : goal.returns-in_err-next_content-clause-refused
-returns-in_err-next_content-clause-refused g c =
+pub returns-in_err-more-clause-refused : goal.returns-in_err-more-clause-refused
+returns-in_err-more-clause-refused g c =
     let p = err_from_is_err_and c.from_residual.result c.from_residual.ensures.1 in
     let start = content_ahead c.args.reader.now (g.I.Inputs.left c.args.inputs.now) in
-    rw (p.1, p.2) (long-line-passed c.in_err-next_content.field-0.0 (λ line. IfSome start (IsPastLimit line)) _
-    (λ line past. if_some-weaker start (IsPastLimit line) _ past (λ was over wanted some. past-parts line was over wanted c.args.ranks)) c.in_err-next_content.ensures.too_long)
+    rw (p.1, p.2) (long-line-passed c.in_err-more.field-0.0 (λ line. IfSome start (IsPastLimit line)) _
+    (λ line past. if_some-weaker start (IsPastLimit line) _ past (λ was over wanted some. past-parts line was over wanted c.args.ranks)) c.in_err-more.ensures.too_long)
 
-pub returns-then-not-branch-clause-refused : goal.returns-then-not-branch-clause-refused
-returns-then-not-branch-clause-refused g c =
+pub returns-in_err-part-clause-refused : goal.returns-in_err-part-clause-refused
+returns-in_err-part-clause-refused g c =
+    let p = err_from_is_err_and c.from_residual-in_err-part.result c.from_residual-in_err-part.ensures.1 in
     let new = c.next_content.new.reader in
-    told-then _ _ _ _ (takes-at c.in_ok-next_content.field-0 false new.lines new.line.items _ _ c.if-not-branch.true c.in_ok-next_content.ensures.ok)
-    (λ was now takes. no-part c.args.ranks new.lines (c.line_number.result + 1) new.line.items was now takes (ap (λ k. k + 1) c.line_number.ensures.number))
+    rw (p.1, p.2) (told-then _ _ _ _ c.in_ok-more.ensures.ok
+    (λ was now takes. part-refused c.args.ranks c.in_ok-more.more new.lines new.line.items was now c.in_err-part.field-0.0 takes c.in_err-part.ensures.refused))
 
-pub returns-in-Ok-clause-ok : goal.returns-in-Ok-clause-ok
-returns-in-Ok-clause-ok g c =
+pub returns-clause-ok : goal.returns-clause-ok
+returns-clause-ok g c =
     let new = c.next_content.new.reader in
     record {
       line = record { number = new.lines; bytes = new.line.items };
-      told = takes-at c.in_ok-next_content.field-0 true new.lines new.line.items _ _ c.if-not-branch.false c.in_ok-next_content.ensures.ok;
-      gives = ap (λ line. numbers (words line)) (sym c.line.ensures) ∙ c.in-Ok.ensures.gives;
+      told = takes-at c.in_ok-more.more true new.lines new.line.items _ _ c.in_ok-part.ensures.some c.in_ok-more.ensures.ok;
+      gives = c.in_ok-part.ensures.gives;
     }
-
-pub returns-in-Err-clause-refused : goal.returns-in-Err-clause-refused
-returns-in-Err-clause-refused g c =
-    let new = c.next_content.new.reader in
-    told-then _ _ _ _ (takes-at c.in_ok-next_content.field-0 true new.lines new.line.items _ _ c.if-not-branch.false c.in_ok-next_content.ensures.ok)
-    (λ was now passes. bad-part c.args.ranks (record { number = new.lines; bytes = new.line.items }) c.line_number-in-Err.result was now c.in-Err.kind passes (ap (λ line. part_fault c.args.ranks (words line)) (sym c.line.ensures) ∙ c.in-Err.ensures.refused) (sym c.line_number-in-Err.ensures.number))

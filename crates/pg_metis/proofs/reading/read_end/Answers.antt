@@ -1,11 +1,10 @@
-use Rattle.std.proofs.Common.{◌≡◌, ◌∷◌, [], ◌∙◌, sym, ap, arith, true, false, IfSome, Some}
+use Rattle.std.proofs.Common.{◌≡◌, ◌∷◌, [], ◌∙◌, ap, arith, true, false, IfSome, Some}
 use Rattle.std.proofs.lemmas.Result.{err_from_is_err_and}
-use Rattle.pg_text.specs.Text.{words}
 use Rattle.pg_metis.specs.Content.{NumberedLine}
 use Rattle.pg_metis.specs.Ahead.{content_ahead, IsPastLimit, Passes}
 use Rattle.pg_metis.specs.Fault.{extra_fault}
 use Rattle.pg_metis.specs.Reading.{blank_fault}
-use Rattle.pg_metis.proofs.ReadingLemmas.{past-blank, bad-blank, blank-on, extra-word, none-blank, takes-at}
+use Rattle.pg_metis.proofs.ReadingLemmas.{past-blank, blank-on, blank-refused, none-blank, takes-at}
 use Rattle.pg_metis.proofs.RefusalLemmas.{too_long-passed}
 use Rattle.pg_metis.proofs.ToldLemmas.{told-if, told-on, told-then}
 use Rattle.pg_metis.proofs.reading.read_end.Goals as goal
@@ -18,15 +17,16 @@ returns-in_err-next_content-clause-refused g c =
     rw (p.1, p.2) (too_long-passed c.in_err-next_content.field-0.0 (λ line. IfSome b (IsPastLimit line)) (λ fault. IfSome a (λ was. blank_fault was ≡ Some fault))
     (λ line past. told-if a b (λ was now. blank_fault was ≡ blank_fault now) (IsPastLimit line) _ c.loop-reader.invariant.same past (λ was now same over. same ∙ past-blank line now over)) c.in_err-next_content.ensures.too_long)
 
-pub returns-then-has_word-clause-refused : goal.returns-then-has_word-clause-refused
-returns-then-has_word-clause-refused g c =
+pub returns-in_err-blank_at-clause-refused : goal.returns-in_err-blank_at-clause-refused
+returns-in_err-blank_at-clause-refused g c =
+    let p = err_from_is_err_and c.from_residual-in_err-blank_at.result c.from_residual-in_err-blank_at.ensures.1 in
     let new = c.next_content.new.reader in
     let line : NumberedLine = record { number = new.lines; bytes = new.line.items } in
-    let bad = ap (λ bytes. extra_fault (words bytes)) (sym c.line.ensures) ∙ extra-word (words c.line.result.now) (c.has_word.ensures.some c.if-has_word.true) in
-    told-if _ _ (λ was now. blank_fault was ≡ blank_fault now) _ _ c.loop-reader.invariant.same
+    let (at, kind, some) = c.in_err-blank_at.ensures.refused in
+    rw (p.1, p.2) (told-if _ _ (λ was now. blank_fault was ≡ blank_fault now) _ _ c.loop-reader.invariant.same
     (told-then _ _ _ _ (takes-at c.in_ok-next_content.field-0 true new.lines new.line.items _ _ c.if-branch.true c.in_ok-next_content.ensures.ok)
-    (λ was now passes. bad-blank line c.line_number.result was now passes bad (sym c.line_number.ensures.number)))
-    (λ was now same is. same ∙ is)
+    (λ was now passes. blank-refused line was now c.in_err-blank_at.field-0.0 passes some at kind))
+    (λ was now same is. same ∙ is))
 
 pub loop-reader-smaller : goal.loop-reader-smaller
 loop-reader-smaller g c =
@@ -39,7 +39,7 @@ loop-reader-preserved g c =
     let inv = c.loop-reader.invariant in
     let new = c.next_content.new.reader in
     let line : NumberedLine = record { number = new.lines; bytes = new.line.items } in
-    let fine = ap (λ bytes. extra_fault (words bytes)) (sym c.line.ensures) ∙ ap extra_fault (c.has_word.ensures.none c.if-has_word.false) in
+    let fine = ap extra_fault c.in_ok-blank_at.ensures.ok in
     record {
       later = omega (arith, inv.later, c.next_content.ensures.later);
       begun = cc (c.next_content.ensures.begun, inv.begun);

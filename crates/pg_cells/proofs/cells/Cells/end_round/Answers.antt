@@ -1,5 +1,5 @@
 -- At each return the two laws hold; the resolver's own law is that of its trait.
-use Rattle.pg_cells.proofs.Laws.{backward_law, forward_law}
+use Rattle.pg_cells.proofs.Synchronizes.{backward_law, forward_law}
 use Rattle.pg_cells.proofs.cells.Cells.end_round.Goals as goal
 
 pub returns-then-self-clause-refreshes : goal.returns-then-self-clause-refreshes

@@ -5,11 +5,11 @@ use Rattle.pg_cells.proofs.cells.Cells.leave_ghosts.Goals as goal
 
 pub invariant_of-self-then-self-clause-noted_values : goal.invariant_of-self-then-self-clause-noted_values
 invariant_of-self-then-self-clause-noted_values g c slot h =
-    let s = c.args.self.now in absurd (no_note s.flags.flush s.debts.noted.items (length s.part.value.ghosts) slot s.noted_none c.requires h)
+    let s = c.args.self.now in absurd (no_note s.flags.flush s.pending_puts.noted.items (length s.part.value.ghosts) slot s.noted_none c.requires h)
 
 pub invariant_of-self-then-self-2-clause-noted_values : goal.invariant_of-self-then-self-2-clause-noted_values
 invariant_of-self-then-self-2-clause-noted_values g c slot h =
-    let s = c.args.self.now in absurd (no_note s.flags.flush s.debts.noted.items (length s.part.value.ghosts) slot s.noted_none c.requires h)
+    let s = c.args.self.now in absurd (no_note s.flags.flush s.pending_puts.noted.items (length s.part.value.ghosts) slot s.noted_none c.requires h)
 
 pub invariant_of-self-then-self-clause-ghosts_each : goal.invariant_of-self-then-self-clause-ghosts_each
 invariant_of-self-then-self-clause-ghosts_each g c =

@@ -1,5 +1,5 @@
 use Rattle.std.proofs.Common.{ap, length, arith}
-use Rattle.pg_cells.proofs.Holding.{few_ghosts}
+use Rattle.pg_adj.proofs.FewGhosts.{few_ghosts}
 use Rattle.pg_cells.proofs.slots.Slots.of_part.Goals as goal
 
 pub invariant_of-result-clause-few : goal.invariant_of-result-clause-few

@@ -1,0 +1,182 @@
+ghost use Rattle.std.specs.Prelude.{◌≡◌, ◌≢◌, ◌⊎◌, ◌↔◌, ◌+◌, ◌%◌, ◌<◌, ◌≤◌, ℕ, Bool, true, false, [], ◌∷◌, ◌++◌, length, replicate, slice_set, IfOk, IfNone, IfSome, if◌then◌else◌};
+ghost use Rattle.std.specs.Vec.{vec_capacity};
+ghost use Rattle.pg_agenda.specs.Shares.{NONE, AreNone, AreSame, only_all, takes_all};
+ghost use Rattle.pg_agenda.specs.declared.shares.Share.{Share};
+ghost use Rattle.pg_agenda.specs.declared.shares.Share.TheVariants.{Light, Heavy, All};
+ghost use Rattle.pg_agenda.specs.LevelLists.{AreLevels, is_set, is_in};
+
+use crate::{Agenda, Share};
+use pg_base::OutOfMemory;
+use pg_group::Vote;
+use std::alloc::{AllocError, Global};
+
+/// The distributed queue: the places of this level, which are ready, and those of the next.
+///
+/// Source: the distributed breadth-first search of the Parallel Boost Graph Library.
+#[derive(Drop)]
+pub struct Levels {
+    this: Vec<u32>,
+    next: Vec<u32>,
+    // Whether each place is pending.
+    pending: Vec<bool>,
+    ghost listed: { AreLevels pending.items this.items next.items },
+    ghost this_room: { length pending.items ≤ vec_capacity this },
+    ghost next_room: { length pending.items ≤ vec_capacity next },
+}
+
+impl Levels {
+    /// Places below `count`, none of them pending. Takes all memory that the agenda needs.
+    pub fn new(alloc: Global, count: u32) -> Result<Levels, OutOfMemory>
+        ensures count { IfOk result (λ levels. length levels.pending.items ≡ count) }
+        ensures none { IfOk result (λ levels. (place : ℕ) → is_set levels.pending.items place ≡ false) }
+    {
+        match levels_of(alloc, count as usize) {
+            Ok(levels) => Ok(levels),
+            Err(_) => Err(OutOfMemory),
+        }
+    }
+
+    // Puts a place that isn't pending in the next level. A pending place stays in its level.
+    fn put(&mut self, place: u32)
+        requires { place < length self.old.pending.items }
+        ensures pending { self.new.pending.items ≡ slice_set self.old.pending.items place true }
+        ensures this { self.new.this.items ≡ self.old.this.items }
+        ensures stays { is_set self.old.pending.items place ≡ true → self.new.next.items ≡ self.old.next.items }
+        ensures joins { is_set self.old.pending.items place ≡ false → self.new.next.items ≡ self.old.next.items ++ place ∷ [] }
+    {
+        if !self.pending[place as usize] {
+            self.next.push_reserved(place);
+            self.pending[place as usize] = true;
+        }
+    }
+
+    // Takes a place of this level, if there is one.
+    fn take(&mut self) -> Option<u32>
+        ensures none { IfNone result (self.old.this.items ≡ []) }
+        ensures rests { IfNone result (self.new.pending.items ≡ self.old.pending.items) }
+        ensures empty { IfNone result (self.new.this.items ≡ []) }
+        ensures ready { IfSome result (λ place. is_in self.old.this.items place ≡ true) }
+        ensures was { IfSome result (λ place. is_set self.old.pending.items place ≡ true) }
+        ensures within { IfSome result (λ place. place < length self.old.pending.items) }
+        ensures pending { IfSome result (λ place. self.new.pending.items ≡ slice_set self.old.pending.items place false) }
+    {
+        let place = self.this.pop()?;
+        self.pending[place as usize] = false;
+        Some(place)
+    }
+
+    // Whether some place is pending.
+    fn is_pending(&self) -> bool
+        ensures none { result ≡ false → (place : ℕ) → is_set self.now.pending.items place ≡ false }
+        ensures some { result ≡ true → (place : ℕ) × (is_set self.now.pending.items place ≡ true) }
+    {
+        !self.this.is_empty() || !self.next.is_empty()
+    }
+
+    // Makes the next level this one. What was still in this level stays in it.
+    fn advance(&mut self)
+        ensures pending { self.new.pending.items ≡ self.old.pending.items }
+        ensures ready { (place : ℕ) → is_in self.new.this.items place ≡ is_set self.old.pending.items place }
+    {
+        while let Some(place) = self.next.pop() {
+            self.this.push_reserved(place);
+        }
+    }
+}
+
+// The levels of a new agenda.
+fn levels_of(alloc: Global, count: usize) -> Result<Levels, AllocError>
+    ensures { IfOk result (λ levels. levels.pending.items ≡ replicate count false) }
+{
+    Ok(Levels {
+        this: Vec::with_capacity(alloc, count)?,
+        next: Vec::with_capacity(alloc, count)?,
+        pending: vec![in alloc; false; count]?,
+    })
+}
+
+impl Agenda for Levels {
+    ghost use Rattle.std.specs.Prelude.{length, true};
+    ghost use Rattle.pg_agenda.specs.Shares.{only_all, takes_all};
+    ghost use Rattle.pg_agenda.specs.LevelLists.{is_set, is_in};
+
+    ghost count = { λ a. length a.pending.items };
+
+    ghost pending = { λ a. only_all (is_set a.pending.items) };
+
+    ghost ready = { λ a. only_all (is_in a.this.items) };
+
+    ghost takes = { λ _. takes_all };
+
+    fn mark(&mut self, place: u32, _amount: u64)
+        requires place { place < length self.old.pending.items }
+        ensures marked { (only_all (is_set self.new.pending.items) All place ≡ true) ⊎ (only_all (is_set self.new.pending.items) Light place ≡ true) }
+        ensures heavy { only_all (is_set self.new.pending.items) Heavy place ≡ only_all (is_set self.old.pending.items) Heavy place }
+        ensures others { (share : Share) (other : ℕ) → other ≢ place → only_all (is_set self.new.pending.items) share other ≡ only_all (is_set self.old.pending.items) share other }
+        ensures same_count { length self.new.pending.items ≡ length self.old.pending.items }
+        ensures same_takes { (share : Share) (w : ℕ) → takes_all share w ≡ takes_all share w }
+        ensures whole { is_set self.new.pending.items place ≡ true }
+        ensures same_level { self.new.this.items ≡ self.old.this.items }
+        ensures stays { is_set self.old.pending.items place ≡ true → self.new.next.items ≡ self.old.next.items }
+        ensures joins { is_set self.old.pending.items place ≡ false → self.new.next.items ≡ self.old.next.items ++ place ∷ [] }
+    {
+        self.put(place);
+    }
+
+    fn pop(&mut self) -> Option<(u32, Share)>
+        ensures none { IfNone result (AreNone (only_all (is_in self.old.this.items))) }
+        ensures still { IfNone result (AreNone (only_all (is_in self.new.this.items))) }
+        ensures ready { IfSome result (λ got. only_all (is_in self.old.this.items) got.1 got.0 ≡ true) }
+        ensures pending { IfSome result (λ got. only_all (is_set self.old.pending.items) got.1 got.0 ≡ true) }
+        ensures within { IfSome result (λ got. got.0 < length self.old.pending.items) }
+        ensures taken { IfSome result (λ got. only_all (is_set self.new.pending.items) got.1 got.0 ≡ false) }
+        ensures heavy { IfSome result (λ got. got.1 ≡ Light → only_all (is_set self.new.pending.items) Heavy got.0 ≡ true) }
+        ensures shares { IfSome result (λ got. (share : Share) → share ≢ got.1 → (got.1 ≡ Light → share ≢ Heavy) → only_all (is_set self.new.pending.items) share got.0 ≡ only_all (is_set self.old.pending.items) share got.0) }
+        ensures others { IfSome result (λ got. (share : Share) (other : ℕ) → other ≢ got.0 → only_all (is_set self.new.pending.items) share other ≡ only_all (is_set self.old.pending.items) share other) }
+        ensures rests { IfNone result (AreSame (only_all (is_set self.old.pending.items)) (only_all (is_set self.new.pending.items))) }
+        ensures whole { (w : ℕ) → takes_all All w ≡ true }
+        ensures halves { (w : ℕ) → (takes_all Light w ≡ true) ⊎ (takes_all Heavy w ≡ true) }
+        ensures same_count { length self.new.pending.items ≡ length self.old.pending.items }
+        ensures same_takes { (share : Share) (w : ℕ) → takes_all share w ≡ takes_all share w }
+        ensures share { IfSome result (λ got. got.1 ≡ All) }
+    {
+        match self.take() {
+            Some(place) => Some((place, Share::All)),
+            None => None,
+        }
+    }
+
+    fn takes(&self, _share: Share, _w: u32) -> bool {
+        true
+    }
+
+    fn vote(&mut self, sent: bool) -> Vote
+        ensures odd { (result.b % 2 ≡ 1) ↔ (sent ≡ true) }
+        ensures none { result.a ≡ NONE → result.b < 2 → AreNone (only_all (is_set self.old.pending.items)) }
+        ensures c { result.c ≡ 0 }
+        ensures d { result.d ≡ 0 }
+        ensures rests { AreSame (only_all (is_set self.old.pending.items)) (only_all (is_set self.new.pending.items)) }
+        ensures same_count { length self.new.pending.items ≡ length self.old.pending.items }
+        ensures same_takes { (share : Share) (w : ℕ) → takes_all share w ≡ takes_all share w }
+        ensures some_pending { (place : ℕ) → is_set self.old.pending.items place ≡ true → result.a ≡ 0 }
+        ensures none_pending { ((place : ℕ) → is_set self.old.pending.items place ≡ false) → result.a ≡ NONE }
+        ensures told { result.b ≡ (if sent then 1 else 0) }
+        ensures same_level { self.new.this.items ≡ self.old.this.items }
+    {
+        Vote {
+            a: if self.is_pending() { 0 } else { u64::MAX },
+            b: u64::from(sent),
+            c: 0,
+            d: 0,
+        }
+    }
+
+    fn begin(&mut self, _votes: &[Vote])
+        ensures rests { AreSame (only_all (is_set self.old.pending.items)) (only_all (is_set self.new.pending.items)) }
+        ensures same_count { length self.new.pending.items ≡ length self.old.pending.items }
+        ensures same_takes { (share : Share) (w : ℕ) → takes_all share w ≡ takes_all share w }
+        ensures ready { AreSame (only_all (is_set self.old.pending.items)) (only_all (is_in self.new.this.items)) }
+    {
+        self.advance();
+    }
+}

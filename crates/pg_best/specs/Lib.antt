@@ -1,0 +1,7 @@
+pub mod Best
+pub mod Parts
+pub mod LocalRelax
+pub mod Relaxation
+pub mod Labels
+pub mod Example
+pub mod Marks

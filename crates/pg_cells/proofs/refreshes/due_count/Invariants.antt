@@ -1,6 +1,0 @@
-use Rattle.std.proofs.Common.{◌≡◌, length, min}
-use Rattle.pg_cells.specs.States.{dues_below}
-use Rattle.pg_cells.proofs.refreshes.due_count.Given as goal
-
-abbrev pub invariant-loop-place : goal.invariant-loop-place
-invariant-loop-place l = l.count ≡ min (length (dues_below l.part l.place)) 18446744073709551615

@@ -1,0 +1,11 @@
+pub mod ArcLemmas
+pub mod DueLemmas
+pub mod TableLemmas
+pub mod OfferedLemmas
+pub mod PassLemmas
+pub mod ListLemmas
+pub mod StepLemmas
+pub mod KeptLemmas
+pub mod OpeningLemmas
+pub mod WholeLemmas
+pub mod DivisionLemmas

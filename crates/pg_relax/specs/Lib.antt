@@ -1,0 +1,10 @@
+pub mod Rounds
+pub mod Tables
+pub mod Frontiers
+pub mod Offered
+pub mod States
+pub mod Passing
+pub mod Kept
+pub mod Items
+pub mod Whole
+pub mod Shown

@@ -1,0 +1,22 @@
+use pg_agenda::Levels;
+use pg_base::Status;
+use pg_label::Hops;
+use pg_relax::Relax;
+use pg_run::Finished;
+
+/// What a run leaves beside its texts: the final programs of its ranks, by rank, and the lanes between them, ascending
+/// in (sender, receiver).
+#[derive(Drop)]
+pub enum Work {
+    /// No algorithm ran, or none to its end.
+    None,
+    /// Those of a breadth-first search.
+    Hops(Finished<Relax<Hops, Levels>>),
+}
+
+/// How a run ended, and what it leaves.
+#[derive(Drop)]
+pub struct Answer {
+    pub status: Status,
+    pub work: Work,
+}

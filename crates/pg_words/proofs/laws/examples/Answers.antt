@@ -1,0 +1,29 @@
+use Rattle.std.proofs.Common.{refl}
+use Rattle.clap.proofs.OnLiterals.{clap_on_literals}
+use Rattle.pg_text.specs.Text.{decimal_value, number, words}
+use Rattle.pg_words.specs.CommandLine.{bare_command, command, faults_in, found_in, told}
+use Rattle.pg_words.specs.Examples.{RefusesWhatIsNotBuilt, RefusesWords, TakesWords}
+use Rattle.pg_words.specs.Needs.{algorithm_in, algorithm_named, fits, fits_crew, fits_task}
+use Rattle.pg_words.specs.Plan.{crew_in, number_within, numbers_in, plan_as, plan_in, plan_of, search_in, size_in}
+use Rattle.pg_words.proofs.laws.examples.Goals as goal
+
+taken : TakesWords
+unfolding clap_on_literals decimal_value number words bare_command command faults_in found_in told algorithm_in algorithm_named fits fits_crew fits_task crew_in number_within numbers_in plan_as plan_in plan_of search_in size_in
+taken = (refl, refl, refl, refl, refl, refl, refl, refl, refl)
+
+refused : RefusesWords
+unfolding clap_on_literals decimal_value number words bare_command command faults_in found_in told algorithm_in algorithm_named fits fits_crew fits_task crew_in number_within numbers_in plan_as plan_in plan_of search_in size_in
+refused = (refl, refl, refl, refl, refl, refl, refl, refl, refl, refl, refl, refl, refl, refl, refl, refl)
+
+not_built : RefusesWhatIsNotBuilt
+unfolding clap_on_literals decimal_value number words bare_command command faults_in found_in told algorithm_in algorithm_named fits fits_crew fits_task crew_in number_within numbers_in plan_as plan_in plan_of search_in size_in
+not_built = (refl, refl, refl, refl)
+
+pub returns-clause-taken : goal.returns-clause-taken
+returns-clause-taken c = taken
+
+pub returns-clause-refused : goal.returns-clause-refused
+returns-clause-refused c = refused
+
+pub returns-clause-not_built : goal.returns-clause-not_built
+returns-clause-not_built c = not_built

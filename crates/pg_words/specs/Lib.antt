@@ -1,0 +1,5 @@
+pub mod Built
+pub mod CommandLine
+pub mod Examples
+pub mod Needs
+pub mod Plan

@@ -1,0 +1,15 @@
+//! What the definition of a plan says of some words and of all, proved.
+ghost use Rattle.pg_words.specs.Built.{PlansAreBuilt};
+ghost use Rattle.pg_words.specs.Examples.{RefusesWhatIsNotBuilt, RefusesWords, TakesWords};
+
+/// The definition, computed on words that are written out.
+pub fn examples()
+    ensures taken { TakesWords }
+    ensures refused { RefusesWords }
+    ensures not_built { RefusesWhatIsNotBuilt }
+{}
+
+/// No words mean a plan for anything that isn't built.
+pub fn plans_are_built()
+    ensures { PlansAreBuilt }
+{}

@@ -1,0 +1,175 @@
+//! Words as a shell gives them, and the plans that they mean.
+
+use crate::{Algorithm, Plan, PlanFault, plan};
+use std::alloc::Global;
+use std::test::Fail;
+
+/// The plan of the words, which stand in one text with a space after each.
+fn planned(alloc: Global, line: &str) -> Result<Result<Plan, PlanFault>, Fail> {
+    let mut words = Vec::new(alloc);
+    for word in line.split_terminator(' ') {
+        words.push(String::from_str(alloc, word)?)?;
+    }
+    Ok(plan(alloc, words.as_slice()))
+}
+
+fn is_refused(alloc: Global, line: &str) -> Result<bool, Fail> {
+    match planned(alloc, line)? {
+        Ok(_plan) => Ok(false),
+        Err(PlanFault::BadWords) => Ok(true),
+        Err(fault) => Err(Fail::from(fault)),
+    }
+}
+
+#[test]
+fn a_search_has_its_defaults(rt: HostRuntime) -> Result<(), Fail> {
+    let plan = planned(rt.alloc(), "bfs A --source 7 ")??;
+    assert!(rt; plan.algorithm == Algorithm::Bfs && plan.file.as_str() == "A" && plan.source == 7);
+    assert!(rt; plan.ranks == 1 && plan.threads == 1 && plan.capacity == 1024);
+    assert!(rt; plan.parts.is_none() && plan.delta == 0);
+    assert!(rt; plan.width == 0 && plan.height == 0 && plan.seed == 0);
+    Ok(())
+}
+
+#[test]
+fn options_stand_anywhere(rt: HostRuntime) -> Result<(), Fail> {
+    let alloc = rt.alloc();
+    for line in [
+        "bfs A --source=7 ",
+        "bfs --source 7 A ",
+        "--source 7 bfs A ",
+        "--source=7 bfs -- A ",
+    ] {
+        let plan = planned(alloc, line)??;
+        assert!(rt;
+            plan.algorithm == Algorithm::Bfs && plan.file.as_str() == "A" && plan.source == 7
+        );
+    }
+    Ok(())
+}
+
+#[test]
+fn names_may_begin_with_hyphens_after_two(rt: HostRuntime) -> Result<(), Fail> {
+    let alloc = rt.alloc();
+    let plan = planned(alloc, "--source 1 -- bfs --ranks ")??;
+    assert!(rt; plan.file.as_str() == "--ranks");
+    let plan = planned(alloc, "bfs A --source 1 -- ")??;
+    assert!(rt; plan.file.as_str() == "A");
+    let plan = planned(alloc, "bfs - --source 1 ")??;
+    assert!(rt; plan.file.as_str() == "-");
+    Ok(())
+}
+
+#[test]
+fn sources_reach_up_to_32_bits(rt: HostRuntime) -> Result<(), Fail> {
+    let alloc = rt.alloc();
+    for (line, source) in [
+        ("bfs A --source 0 ", 0),
+        ("bfs A --source 0000000007 ", 7),
+        ("bfs A --source 4294967295 ", u32::MAX),
+    ] {
+        let plan = planned(alloc, line)??;
+        assert_eq!(rt; plan.source, source);
+    }
+    Ok(())
+}
+
+#[test]
+fn ranks_and_capacity_have_their_ranges(rt: HostRuntime) -> Result<(), Fail> {
+    let alloc = rt.alloc();
+    for (line, ranks, capacity) in [
+        ("bfs A --source 1 --ranks 1 ", 1, 1024),
+        ("bfs A --source 1 --ranks=2 ", 2, 1024),
+        ("--ranks 32 bfs A --source 1 ", 32, 1024),
+        ("bfs A --source 1 --capacity 1 ", 1, 1),
+        ("bfs A --source 1 --capacity=1024 ", 1, 1024),
+        ("bfs A --source 1 --ranks 32 --capacity 1 ", 32, 1),
+    ] {
+        let plan = planned(alloc, line)??;
+        assert_eq!(rt; plan.ranks, ranks);
+        assert_eq!(rt; plan.threads, ranks);
+        assert_eq!(rt; plan.capacity, capacity);
+    }
+    for line in [
+        "bfs A --source 1 --ranks 0 ",
+        "bfs A --source 1 --ranks 33 ",
+        "bfs A --source 1 --ranks= ",
+        "bfs A --source 1 --capacity 0 ",
+        "bfs A --source 1 --capacity 1025 ",
+        "bfs A --source 1 --capacity x ",
+    ] {
+        assert!(rt; is_refused(alloc, line)?);
+    }
+    Ok(())
+}
+
+#[test]
+fn words_that_are_no_command_line_are_refused(rt: HostRuntime) -> Result<(), Fail> {
+    let alloc = rt.alloc();
+    for line in [
+        "",
+        "bfs ",
+        "bfs A ",
+        "bfs --source 1 ",
+        "bfs A --source ",
+        "bfs A B --source 1 ",
+        "bfs A --source 1 --source 1 ",
+        "bfs A --source 1 --source=1 ",
+        "bfs A --source x ",
+        "bfs A --source= ",
+        "bfs A --source -1 ",
+        "bfs A --source=-1 ",
+        "bfs A --source=+1 ",
+        "bfs A --source -- 1 ",
+        "bfs A --source 4294967296 ",
+        "bfs A --source 00000000001 ",
+        "bfs A --sourc 1 ",
+        "bfs A --sources 1 ",
+        "bfs A -s 1 ",
+        "bfs -A --source 1 ",
+        "--help ",
+        "-h ",
+        "help ",
+        "--version ",
+        "bfs A --source 1 --help ",
+    ] {
+        assert!(rt; is_refused(alloc, line)?);
+    }
+    Ok(())
+}
+
+/// Each of these is one of the design's words. A line goes from here when what it asks for is built.
+#[test]
+fn what_is_not_built_is_refused(rt: HostRuntime) -> Result<(), Fail> {
+    let alloc = rt.alloc();
+    for line in [
+        "bfs A --source 1 --threads 1 ",
+        "bfs A --source 1 --ranks 2 --threads 2 ",
+        "bfs A --source 1 --parts P ",
+        "bfs A --source 1 --parts= ",
+        "sssp A --source 3 ",
+        "sssp A --source 3 --delta 1 ",
+        "components A ",
+        "forest A ",
+        "colour A ",
+        "grid --width 2 --height 2 --seed 7 ",
+    ] {
+        assert!(rt; is_refused(alloc, line)?);
+    }
+    Ok(())
+}
+
+#[test]
+fn options_of_other_algorithms_are_refused(rt: HostRuntime) -> Result<(), Fail> {
+    let alloc = rt.alloc();
+    for line in [
+        "bfs A --source 1 --delta 4 ",
+        "bfs A --source 1 --width 2 ",
+        "bfs A --source 1 --height 2 ",
+        "bfs A --source 1 --seed 7 ",
+        "components A --source 1 ",
+    ] {
+        assert!(rt; is_refused(alloc, line)?);
+    }
+    Ok(())
+}

@@ -1,0 +1,155 @@
+#!/usr/bin/env python3
+"""Tries the built program `pbgl` from outside: what it writes to standard output and to standard error, and the
+status that it ends with.
+
+    python3 tools/try_program.py [--pbgl PATH]
+
+Three lists of runs: one or more for each status that files and streams can bring about (0, 2, 3, 5, 6 and 8);
+each command that README.md shows, against what it shows there; each file of examples/ that holds an answer. One
+line for each run that differs; the last line is `N passed, M failed`, and the status is 1 if any failed.
+
+Without --pbgl it runs bin/pbgl, which proves and builds the program first where it isn't current.
+"""
+import argparse, glob, os, re, shlex, subprocess, sys, tempfile
+
+TOP = os.path.dirname(os.path.dirname(os.path.abspath(__file__)))
+FULL = "/dev/full"
+SECONDS = 60
+
+# The files of the runs by status. Two hold graphs that answer differently.
+FILES = {
+    "A": "4 2 1\n2 5\n1 5 3 2\n2 2\n\n",
+    "B": "3 2\n2\n1 3\n2\n",
+    "-": "1 0\n\n",
+    "-A": "2 1\n2\n1\n",
+    "broken": "3 1\n2\n3\n\n",
+    "empty": "",
+}
+
+# Words, status, standard output, standard error. None: not looked at, since it went to a full device.
+RUNS = [
+    ("bfs A --source 1", 0, "0\n1\n2\n-\n", ""),
+    ("bfs B --source 1", 0, "0\n1\n2\n", ""),
+    ("--source=3 bfs B", 0, "2\n1\n0\n", ""),
+    ("bfs - --source 1 --", 0, "0\n", ""),
+    ("bfs --source 2 -- -A", 0, "1\n0\n", ""),
+    ("", 2, "", "bad words\n"),
+    ("bfs A", 2, "", "bad words\n"),
+    ("bfs missing", 2, "", "bad words\n"),
+    ("bfs A --source x", 2, "", "bad words\n"),
+    ("bfs A --source 1 --source 1", 2, "", "bad words\n"),
+    ("bfs A --source -- 1", 2, "", "bad words\n"),
+    ("sssp A --source 1", 2, "", "bad words\n"),
+    ("bfs A --source 1 --ranks 1", 0, "0\n1\n2\n-\n", ""),
+    ("bfs A --source 1 --ranks 32 --capacity 1", 0, "0\n1\n2\n-\n", ""),
+    ("bfs A --source 1 --threads 1", 2, "", "bad words\n"),
+    ("--help", 2, "", "bad words\n"),
+    ("bfs broken --source 1", 3, "", "line 2: NoMirror\n"),
+    ("bfs empty --source 1", 3, "", "line 1: NoHeader\n"),
+    ("bfs broken --source 9", 3, "", "line 2: NoMirror\n"),
+    ("bfs missing --source 1", 5, "", "cannot read\n"),
+    ("bfs . --source 1", 5, "", "cannot read\n"),
+    ("bfs A --source 0", 8, "", "source 0: not in the graph\n"),
+    ("bfs A --source 5", 8, "", "source 5: not in the graph\n"),
+]
+
+# The same where standard output, standard error or both are a full device.
+FULL_RUNS = [
+    ("bfs A --source 1", 6, None, "cannot write\n"),
+    ("bfs A --source 1", 6, None, None),
+    ("bfs broken --source 1", 3, "", None),
+    ("bfs A --source 0", 8, None, "source 0: not in the graph\n"),
+]
+
+
+def run(program, words, folder, out=subprocess.PIPE, errs=subprocess.PIPE):
+    """The status, and what was written to pipes."""
+    done = subprocess.run([program] + words, cwd=folder, stdin=subprocess.DEVNULL,
+                          stdout=out, stderr=errs, timeout=SECONDS)
+    return done.returncode, done.stdout, done.stderr
+
+
+def difference(wanted, got):
+    """What differs between two answers, as a text, or nothing."""
+    for name, want, have in zip(("status", "standard output", "standard error"), wanted, got):
+        want = want.encode() if isinstance(want, str) else want
+        if want is not None and want != have:
+            return "%s %r, not %r" % (name, have, want)
+    return ""
+
+
+def try_statuses(program):
+    """Each run by status, in a folder of its own, as pairs of a name and what differs."""
+    with tempfile.TemporaryDirectory() as folder:
+        for name, text in FILES.items():
+            with open(os.path.join(folder, name), "w", newline="") as file:
+                file.write(text)
+        for line, *wanted in RUNS:
+            yield "pbgl " + line, difference(wanted, run(program, line.split(), folder))
+        with open(FULL, "wb") as full:
+            for line, *wanted in FULL_RUNS:
+                out, errs = (full if text is None else subprocess.PIPE for text in wanted[1:])
+                yield "pbgl %s (full device)" % line, difference(wanted, run(program, line.split(), folder, out, errs))
+
+
+def shown_commands(text):
+    """The commands of a page's blocks that run bin/pbgl, each with the lines that the page shows for it."""
+    found = []
+    for block in re.findall(r"^```\n(.*?)^```$", text, re.M | re.S):
+        shown = None
+        for line in block.splitlines():
+            if line.startswith("$ "):
+                shown = [] if line.startswith("$ bin/pbgl ") else None
+                if shown is not None:
+                    found.append((line[2:], shown))
+            elif line.startswith("bin/pbgl ") and "#" in line:
+                command, note = line.split("#", 1)
+                found.append((command.strip(), note.split(",")[0].split()))
+            elif shown is not None:
+                shown.append(line)
+    return found
+
+
+def try_page(program, page):
+    """Each command that a page shows, run at the top, against what the page shows."""
+    with open(os.path.join(TOP, page), encoding="utf-8") as file:
+        commands = shown_commands(file.read())
+    yield page, "" if commands else "no command was found there"
+    for command, shown in commands:
+        _status, out, errs = run(program, shlex.split(command)[1:], TOP)
+        lines = (out + errs).decode().splitlines()
+        yield "%s: %s" % (page, command), "" if lines == shown else "%r, not %r" % (lines, shown)
+
+
+def try_examples(program):
+    """Each answer that stands beside an example's graph."""
+    for path in sorted(glob.glob(os.path.join(TOP, "examples", "*.bfs-from-*"))):
+        stem, source = path.rsplit(".bfs-from-", 1)
+        with open(path, encoding="utf-8") as file:
+            wanted = (0, file.read(), "")
+        words = ["bfs", stem + ".graph", "--source", source]
+        yield os.path.relpath(path, TOP), difference(wanted, run(program, words, TOP))
+
+
+def main():
+    parser = argparse.ArgumentParser(description=__doc__, formatter_class=argparse.RawDescriptionHelpFormatter)
+    parser.add_argument("--pbgl", default=os.path.join(TOP, "bin", "pbgl"))
+    program = os.path.abspath(parser.parse_args().pbgl)
+    # Where the program has to be built, that takes its time here and not in a run that is timed.
+    if subprocess.run([program], stdin=subprocess.DEVNULL, stdout=subprocess.DEVNULL,
+                      stderr=subprocess.DEVNULL).returncode != 2:
+        print("%s isn't there, or doesn't refuse to run without words" % program)
+        print("0 passed, 1 failed")
+        return 1
+    passed = failed = 0
+    for tries in (try_statuses(program), try_page(program, "README.md"), try_examples(program)):
+        for name, wrong in tries:
+            passed, failed = passed + (not wrong), failed + bool(wrong)
+            if wrong:
+                print("FAIL %s: %s" % (name, wrong))
+    print("%d passed, %d failed" % (passed, failed))
+    return 1 if failed else 0
+
+
+if __name__ == "__main__":
+    sys.exit(main())
