@@ -4,7 +4,7 @@ status that it ends with.
 
     python3 tools/try_program.py [--pbgl PATH]
 
-Three lists of runs: one or more for each status that files and streams can bring about (0, 2, 3, 5, 6 and 8);
+Three lists of runs: one or more for each status that files and streams can bring about (0, 2, 3, 4, 5, 6 and 8);
 each command that README.md shows, against what it shows there; each file of examples/ that holds an answer. One
 line for each run that differs; the last line is `N passed, M failed`, and the status is 1 if any failed.
 
@@ -24,6 +24,7 @@ FILES = {
     "-A": "2 1\n2\n1\n",
     "broken": "3 1\n2\n3\n\n",
     "empty": "",
+    "owners": "0\n1\n3\n0\n",
 }
 
 # Words, status, standard output, standard error. None: not looked at, since it went to a full device.
@@ -39,10 +40,22 @@ RUNS = [
     ("bfs A --source x", 2, "", "bad words\n"),
     ("bfs A --source 1 --source 1", 2, "", "bad words\n"),
     ("bfs A --source -- 1", 2, "", "bad words\n"),
-    ("sssp A --source 1", 2, "", "bad words\n"),
+    ("sssp A --source 1 --delta 0", 2, "", "bad words\n"),
+    ("components A --source 1", 2, "", "bad words\n"),
+    ("forest A", 2, "", "bad words\n"),
+    ("sssp A --source 1", 0, "0\n5\n7\n-\n", ""),
+    ("sssp A --source 1 --delta 1 --ranks 3 --threads 2", 0, "0\n5\n7\n-\n", ""),
+    ("components A", 0, "1\n1\n1\n4\n", ""),
+    ("components A --ranks 4 --parts owners", 0, "1\n1\n1\n4\n", ""),
+    ("components A --ranks 3 --parts owners", 4, "", "parts line 3: OutOfRange\n"),
+    ("components broken --ranks 3 --parts owners", 3, "", "line 2: NoMirror\n"),
+    ("bfs A --source 9 --ranks 3 --parts owners", 4, "", "parts line 3: OutOfRange\n"),
+    ("bfs A --source 9 --ranks 4 --parts owners", 8, "", "source 9: not in the graph\n"),
+    ("components A --parts missing", 5, "", "cannot read\n"),
     ("bfs A --source 1 --ranks 1", 0, "0\n1\n2\n-\n", ""),
     ("bfs A --source 1 --ranks 32 --capacity 1", 0, "0\n1\n2\n-\n", ""),
-    ("bfs A --source 1 --threads 1", 2, "", "bad words\n"),
+    ("bfs A --source 1 --ranks 4 --threads 4 --capacity 1", 0, "0\n1\n2\n-\n", ""),
+    ("bfs A --source 1 --threads 33", 2, "", "bad words\n"),
     ("--help", 2, "", "bad words\n"),
     ("bfs broken --source 1", 3, "", "line 2: NoMirror\n"),
     ("bfs empty --source 1", 3, "", "line 1: NoHeader\n"),
@@ -121,14 +134,25 @@ def try_page(program, page):
         yield "%s: %s" % (page, command), "" if lines == shown else "%r, not %r" % (lines, shown)
 
 
+def example_words(path):
+    """The words of the run whose answer stands in NAME.ALGORITHM or NAME.ALGORITHM-from-V, without its options."""
+    stem, answer = os.path.splitext(path)
+    algorithm, _, source = answer[1:].partition("-from-")
+    return [algorithm, stem + ".graph"] + (["--source", source] if source else [])
+
+
 def try_examples(program):
-    """Each answer that stands beside an example's graph."""
-    for path in sorted(glob.glob(os.path.join(TOP, "examples", "*.bfs-from-*"))):
-        stem, source = path.rsplit(".bfs-from-", 1)
-        with open(path, encoding="utf-8") as file:
-            wanted = (0, file.read(), "")
-        words = ["bfs", stem + ".graph", "--source", source]
-        yield os.path.relpath(path, TOP), difference(wanted, run(program, words, TOP))
+    """Each answer that stands beside an example's graph, also over three ranks and by a partition file if there is one."""
+    for algorithm in ("bfs", "sssp", "components"):
+        for path in sorted(glob.glob(os.path.join(TOP, "examples", "*.%s*" % algorithm))):
+            with open(path, encoding="utf-8") as file:
+                wanted = (0, file.read(), "")
+            words = example_words(path)
+            yield os.path.relpath(path, TOP), difference(wanted, run(program, words, TOP))
+            words += ["--ranks", "3"]
+            parts = words[1][:-len(".graph")] + ".parts"
+            words += ["--parts", parts] if os.path.exists(parts) else []
+            yield os.path.relpath(path, TOP) + " over ranks", difference(wanted, run(program, words, TOP))
 
 
 def main():

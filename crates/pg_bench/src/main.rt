@@ -39,6 +39,7 @@ use sites::{blocks, sites_of, synchronize};
 use std::io::ErrorKind;
 use std::rt::Clock;
 use std::sync::Wait;
+use std::thread::Threads;
 use std::time::{Duration, Instant};
 use std::{env, io};
 use totals::{Totals, cell_count};
@@ -126,7 +127,7 @@ fn divide<D: Distribution>(
 }
 
 // Runs the rolls of a group, and prints how many messages they sent and how long it took.
-fn measure_traffic<R: Wait + Clock + Print + Eprint + AllocGlobal + Copy + Send>(
+fn measure_traffic<R: Threads + Wait + Sync + Clock + Print + Eprint + AllocGlobal + Copy + Send>(
     rt: &R,
     job: Traffic,
 ) -> io::Result<()> {

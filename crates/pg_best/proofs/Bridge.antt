@@ -1,18 +1,22 @@
 -- The law where each rank's lists are known only by what a book holds of them.
-use Rattle.std.proofs.Common.{◌≡◌, ◌⊎◌, ℕ, ◌^◌, ◌<◌, ◌≤◌, Bool, true, false, Option, List, [], sym, ap, ◌∙◌, inl, inr, arith, All}
+use Rattle.std.proofs.Common.{◌≡◌, ◌⊎◌, ℕ, ◌^◌, ◌<◌, ◌≤◌, Bool, true, Option, List, [], sym, ap, subst, ◌∙◌, inl, inr, arith, All}
 use Rattle.std.proofs.lemmas.Bool.{cases_lt}
+use Rattle.std.proofs.lemmas.List.Elements.{All-contains}
 use Rattle.pg_base.specs.declared.TheConstants.{MAX_VERTICES}
 use Rattle.pg_base.specs.Graph.{Arc}
 use Rattle.pg_group.specs.declared.messages.Body.{Body}
 use Rattle.pg_group.specs.Ranked.{IsOther, list_at}
 use Rattle.pg_group.specs.Rounds.{marks, ends_with_mark}
 use Rattle.pg_label.specs.declared.values.Value.{Value}
+use Rattle.pg_label.specs.Values.{extended}
 use Rattle.pg_best.specs.declared.offers.Offer.{Offer}
 use Rattle.pg_best.specs.Best.{Label, Best}
 use Rattle.pg_best.specs.Parts.{IsVertex, LocalArc, Part, IsDivided}
 use Rattle.pg_best.specs.LocalRelax.{LocalRelax, IsMarked}
-use Rattle.pg_best.specs.Relaxation.{Run, IsArc, IsRun}
+use Rattle.pg_best.specs.Relaxed.{HoldsOffer, Relaxed}
+use Rattle.pg_best.specs.Relaxation.{Run, IsArc, IsRun, IsIdle}
 use Rattle.pg_best.proofs.Complete.{idle_is_best}
+use Rattle.pg_best.proofs.Crossing.{idle_is_relaxed}
 use Rattle.pg_best.proofs.Ending.{end_is_idle}
 
 -- One rank's lists, which are those of the lanes from and to it.
@@ -84,17 +88,28 @@ module _ (n ranks : ℕ) (arcs : List Arc) (owner place : ℕ → ℕ) (parts : 
   marked_picked r (inr h) l m = absurd (omega arith)
 
   -- Where all ranks have ended, over whole lists with as many marks each, the last of them at the end.
-  pub best_at_end : n ≤ MAX_VERTICES → All (IsArc n) arcs → All (λ (a : Arc). label.add a.weight < 2 ^ 32) arcs → IsDivided n ranks arcs owner place parts
-      → ((r s : ℕ) → r < ranks → IsOther r ranks s → taken_on r s ≡ sent_on r s)
-      → ((r : ℕ) (h : r < ranks) → IsMarked (parts r) (kept r h).handled (kept r h).sent (due r) (last r))
-      → (rounds : ℕ) → ((r s : ℕ) → r < ranks → IsOther r ranks s → marks (sent_on r s) ≡ rounds)
-      → ((r s : ℕ) → r < ranks → IsOther r ranks s → ends_with_mark (sent_on r s) ≡ true)
-      → (v : ℕ) → IsVertex n v → Best label arcs v (cell (owner v) (place v))
-  best_at_end size are costs divided whole ended rounds marked ends v at =
-      let run = is_run size are costs divided whole in
-      idle_is_best run_of run (end_is_idle run_of run (record {
-        rounds = rounds;
-        marked = λ r s h other. ap marks (picked_sent r s (cases_lt r ranks) h other) ∙ marked r s h other;
-        last = λ r s h other. ap ends_with_mark (picked_sent r s (cases_lt r ranks) h other) ∙ ends r s h other;
-        kept = λ r h. marked_picked r (cases_lt r ranks) h (ended r);
-      })) v at
+  module _ (size : n ≤ MAX_VERTICES) (are : All (IsArc n) arcs) (costs : All (λ (a : Arc). label.add a.weight < 2 ^ 32) arcs) (divided : IsDivided n ranks arcs owner place parts)
+      (whole : (r s : ℕ) → r < ranks → IsOther r ranks s → taken_on r s ≡ sent_on r s)
+      (ended : (r : ℕ) (h : r < ranks) → IsMarked (parts r) (kept r h).handled (kept r h).sent (due r) (last r))
+      (rounds : ℕ) (marked : (r s : ℕ) → r < ranks → IsOther r ranks s → marks (sent_on r s) ≡ rounds)
+      (ends : (r s : ℕ) → r < ranks → IsOther r ranks s → ends_with_mark (sent_on r s) ≡ true) where
+    run_is : IsRun run_of
+    run_is = is_run size are costs divided whole
+
+    idle_at_end : IsIdle run_of
+    idle_at_end = end_is_idle run_of run_is (record {
+      rounds = rounds;
+      marked = λ r s h other. ap marks (picked_sent r s (cases_lt r ranks) h other) ∙ marked r s h other;
+      last = λ r s h other. ap ends_with_mark (picked_sent r s (cases_lt r ranks) h other) ∙ ends r s h other;
+      kept = λ r h. marked_picked r (cases_lt r ranks) h (ended r);
+    })
+
+    pub at_end : ((v : ℕ) → IsVertex n v → Best label arcs v (cell (owner v) (place v))) × Relaxed label arcs owner place (λ v. cell (owner v) (place v)) sent_on
+    at_end = (
+      idle_is_best run_of run_is idle_at_end,
+      λ a x among apart has within.
+          let ends = All-contains (IsArc n) arcs a are among in
+          let from : owner a.from < ranks = divided.owned a.from ends.from in
+          subst (λ l. HoldsOffer l a.to (place a.to) (extended x (label.add a.weight))) (picked_sent (owner a.from) (owner a.to) (cases_lt (owner a.from) ranks) from (divided.owned a.to ends.to, apart))
+          (idle_is_relaxed run_of run_is idle_at_end a x among apart has within),
+    )

@@ -3,11 +3,11 @@ use Rattle.std.proofs.Common.{◌≡◌, ℕ, ◌<◌, ◌≤◌, ◌%◌, false
 use Rattle.std.proofs.lemmas.Bool.{cases_lt, cases_Bool}
 use Rattle.pg_group.specs.declared.messages.Body.{Body}
 use Rattle.pg_group.specs.Ranked.{IsOther, list_at}
-use Rattle.pg_group.specs.Rounds.{marks, items_of_round}
+use Rattle.pg_group.specs.Rounds.{marks, votes_of, items_of_round}
 use Rattle.std.specs.Prelude.{slice_get}
 use Rattle.pg_best.specs.declared.offers.Offer.{Offer}
 use Rattle.pg_best.specs.Parts.{LocalArc}
-use Rattle.pg_best.specs.LocalRelax.{votes_of, HasItemFrom}
+use Rattle.pg_best.specs.LocalRelax.{HasItemFrom}
 use Rattle.pg_best.specs.Relaxation.{Run, IsRun, HasEnded, EndIsIdle}
 use Rattle.pg_best.proofs.Rounds.{vote_of_mark, none_past}
 use Rattle.pg_best.proofs.Support.{as_other, of_other, turned}

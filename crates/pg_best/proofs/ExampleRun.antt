@@ -7,14 +7,14 @@ use Rattle.pg_base.proofs.Members.{contains_first, contains_cases}
 use Rattle.pg_group.specs.declared.messages.Body.TheVariants.{Item, Mark}
 use Rattle.pg_group.specs.declared.messages.Vote.{Vote}
 use Rattle.pg_group.specs.Ranked.{IsOther, list_at}
-use Rattle.pg_group.specs.Rounds.{marks, ends_with_mark, items_of_round}
+use Rattle.pg_group.specs.Rounds.{votes_of, marks, ends_with_mark, items_of_round}
 use Rattle.pg_label.specs.declared.values.Value.{Value}
 use Rattle.pg_best.specs.declared.offers.Offer.{Offer}
 use Rattle.pg_label.specs.Values.{AtMost, IsWithin, measure, start_value, extended}
 use Rattle.pg_best.specs.Best.{Belongs}
 use Rattle.pg_best.specs.Labels.{weight_from, from_source}
 use Rattle.pg_best.specs.Parts.{IsVertex, IsAt, LocalArc, Include, whole_arc, local_arc, IsDivided}
-use Rattle.pg_best.specs.LocalRelax.{votes_of, IsItemAt, IsOffered, IsMarked, LocalRelax}
+use Rattle.pg_best.specs.LocalRelax.{IsItemAt, IsOffered, IsMarked, LocalRelax}
 use Rattle.pg_best.specs.Relaxation.{IsRun, HasEnded, IsArc}
 use Rattle.pg_best.specs.Example.{arc, local, part_of, second, offer, busy, empty, there, back, sent_of, handled_of, cell_of, example}
 

@@ -7,15 +7,15 @@ use Rattle.pg_group.specs.declared.messages.Body.{Body}
 use Rattle.pg_group.specs.declared.messages.Body.TheVariants.{Item, Mark}
 use Rattle.pg_group.specs.declared.messages.Vote.{Vote}
 use Rattle.pg_group.specs.Ranked.{IsOther, list_at, append_at}
-use Rattle.pg_group.specs.Rounds.{marks, items_of_round}
+use Rattle.pg_group.specs.Rounds.{marks, votes_of, items_of_round}
 use Rattle.pg_group.specs.Supersteps.{append_others, append_each, append_marks}
 use Rattle.pg_group.specs.Rolls.{voted}
 use Rattle.pg_group.proofs.Lanes.{items_of_round-push}
 use Rattle.pg_group.proofs.RollLemmas.{marks-item, marks-mark, round-mark, round-ended, round-to_come, length-append_at, list_at-append_same, list_at-append_else, length-append_others, list_at-append_others, length-append_marks}
 use Rattle.pg_best.specs.declared.offers.Offer.{Offer}
 use Rattle.pg_best.specs.Parts.{Part, LocalArc}
-use Rattle.pg_best.specs.LocalRelax.{votes_of, HasItemFrom, NONE, IsMarked}
-use Rattle.pg_best.specs.Marks.{NoItems, IsQuiet, Marks}
+use Rattle.pg_best.specs.LocalRelax.{HasItemFrom, IsMarked}
+use Rattle.pg_best.specs.Marks.{NoItems, IsQuiet, AreAllQuiet, Marks}
 
 votes-item : (bs : List (Body Offer)) (x : Offer) → votes_of (bs ++ Item x ∷ []) ≡ votes_of bs
 votes-item [] x = refl
@@ -37,6 +37,39 @@ vote_below [] k w e = cc
 vote_below (Item y ∷ bs) k w e = vote_below bs k w e
 vote_below (Mark u ∷ bs) zero w e = omega arith
 vote_below (Mark u ∷ bs) (suc k) w e = omega (arith, vote_below bs k w e)
+
+vote_stays : (bs : List (Body Offer)) (v : Vote) (k : ℕ) (w : Vote) → slice_get (votes_of bs) k ≡ Some w → slice_get (votes_of (bs ++ Mark v ∷ [])) k ≡ Some w
+vote_stays [] v k w e = cc
+vote_stays (Item y ∷ bs) v k w e = vote_stays bs v k w e
+vote_stays (Mark u ∷ bs) v zero w e = e
+vote_stays (Mark u ∷ bs) v (suc k) w e = vote_stays bs v k w e
+
+vote_last : (bs : List (Body Offer)) (v : Vote) → slice_get (votes_of (bs ++ Mark v ∷ [])) (marks bs) ≡ Some v
+vote_last [] v = refl
+vote_last (Item y ∷ bs) v = vote_last bs v
+vote_last (Mark u ∷ bs) v = vote_last bs v
+
+voter_below : (votes : List Vote) (r : ℕ) (w : Vote) → slice_get votes r ≡ Some w → r < length votes
+voter_below [] r w e = cc
+voter_below (v ∷ votes) zero w e = omega arith
+voter_below (v ∷ votes) (suc r) w e = omega (arith, voter_below votes r w e)
+
+-- another rank than this one
+pub other_than : (own size : ℕ) → 1 < size → (rank : ℕ) × IsOther own size rank
+other_than zero size some = (1, (some, λ e. absurd (omega (arith, e))))
+other_than (suc own) size some = (0, (omega (arith, some), λ e. absurd (omega (arith, e))))
+
+-- The votes of the lists stand in others too.
+abbrev VotesStay : Part → List (List (Body Offer)) → List (List (Body Offer)) → ℕ → Type 0
+VotesStay part lists lists' k = (r : ℕ) (w : Vote) → IsOther part.rank part.ranks r → slice_get (votes_of (list_at lists r)) k ≡ Some w → slice_get (votes_of (list_at lists' r)) k ≡ Some w
+
+-- as lists grow, a round of which all votes are quiet was one before
+quiet_before : (part : Part) (handled handled' sent sent' : List (List (Body Offer))) (k : ℕ) → VotesStay part handled handled' k → VotesStay part sent sent' k
+    → AreAllQuiet part handled' sent' k → AreAllQuiet part handled sent k
+quiet_before part handled handled' sent sent' k in_handled in_sent all = record {
+  others = λ from vote other is. all.others from vote other (in_handled from vote other is);
+  mine = λ to vote other is. all.mine to vote other (in_sent to vote other is);
+}
 
 at_each : (votes : List Vote) (lists : List (List (Body Offer))) (k : ℕ) → k < length lists → k < length votes → (vote : Vote) × (slice_get votes k ≡ Some vote) × (list_at (append_each votes lists) k ≡ list_at lists k ++ Mark vote ∷ [])
 at_each [] lists k h l = absurd (omega arith)
@@ -111,6 +144,10 @@ module _ (part : Part) (handled sent : List (List (Body Offer))) (due : LocalArc
         };
         ended = λ e f vote away is. m.ended e f vote away (subst (λ (vs : List Vote). slice_get vs round ≡ Some vote) (voted_at handled from f o within) is);
         own = m.own;
+        told = m.told;
+        going = λ some k early all.
+            m.going some k early (quiet_before part handled (append_at handled from (Item o)) sent sent k
+            (λ r w h is. ap (λ vs. slice_get vs k) (voted_at handled from r o within) ∙ is) (λ r w h is. is) all);
       }
 
   -- an item is sent before the vote
@@ -143,6 +180,10 @@ module _ (part : Part) (handled sent : List (List (Body Offer))) (due : LocalArc
         quiet = λ vote e q a busy. cc;
         ended = m.ended;
         own = λ e. cc;
+        told = λ vote e. cc;
+        going = λ some k early all.
+            m.going some k early (quiet_before part handled handled sent (append_at sent to (Item o)) k
+            (λ r w h is. is) (λ r w h is. ap (λ vs. slice_get vs k) (voted_at sent to r o within) ∙ is) all);
       }
 
   -- the vote is cast where no arc is due, or it says that something is
@@ -175,12 +216,52 @@ module _ (part : Part) (handled sent : List (List (Body Offer))) (due : LocalArc
             let still : due a ≡ false = idle (subst IsQuiet v_is q) a in cc;
         ended = m.ended;
         own = λ e. cc;
+        told = λ w e r h.
+            ap (λ l. slice_get (votes_of l) round) (at r h)
+            ∙ subst (λ n. slice_get (votes_of (list_at sent r ++ Mark vote ∷ [])) n ≡ Some vote) (count r h) (vote_last (list_at sent r) vote) ∙ e;
+        going = λ some k early all.
+            m.going some k early (quiet_before part handled handled sent now k
+            (λ r w h is. is) (λ r w h is. ap (λ l. slice_get (votes_of l) k) (at r h) ∙ vote_stays (list_at sent r) vote k w is) all);
       }
 
+  -- the lists after a round has ended with these votes
+  abbrev marked_by : List Vote → List (List (Body Offer))
+  marked_by votes = append_marks part.rank votes handled
+
+  votes_stay : (votes : List Vote) → length votes ≡ part.ranks → (k : ℕ) → VotesStay part handled (marked_by votes) k
+  votes_stay votes each k r w h is =
+      let at = at_marks part.rank votes handled r (omega (arith, m.from_each, h.0)) (omega (arith, h.0)) h.1 in
+      ap (λ l. slice_get (votes_of l) k) at.2 ∙ vote_stays (list_at handled r) at.0 k w is
+
+  -- where a round's marks are quiet, so are the votes with which it ends
+  quiet_votes : (votes : List Vote) → over ≡ false → length votes ≡ part.ranks → slice_get votes part.rank ≡ cast → 1 < part.ranks
+      → AreAllQuiet part (marked_by votes) sent round → (r : ℕ) (w : Vote) → slice_get votes r ≡ Some w → IsQuiet w
+  quiet_votes votes runs each mine some all r w is = elim (cases_eq r part.rank) [
+    | inl same ↦
+        let other = other_than part.rank part.ranks some in
+        let was : cast ≡ Some w = sym mine ∙ subst (λ n. slice_get votes n ≡ Some w) same is in
+        all.mine other.0 w other.1 (m.told w was other.0 other.1)
+    | inr apart ↦
+        let h : IsOther part.rank part.ranks r = (omega (arith, voter_below votes r w is, each), apart) in
+        let at = at_marks part.rank votes handled r (omega (arith, m.from_each, h.0)) (omega (arith, h.0)) h.1 in
+        all.others r w h (ap (λ l. slice_get (votes_of l) round) at.2
+        ∙ subst (λ n. slice_get (votes_of (list_at handled r ++ Mark at.0 ∷ [])) n ≡ Some at.0) (m.running runs r h) (vote_last (list_at handled r) at.0)
+        ∙ sym at.1 ∙ is)
+  ]
+
+  -- in a round that ends, or an earlier one, some vote says that something is left
+  still_going : (votes : List Vote) → over ≡ false → length votes ≡ part.ranks → slice_get votes part.rank ≡ cast → (((r : ℕ) (w : Vote) → slice_get votes r ≡ Some w → IsQuiet w) → ⊥)
+      → 1 < part.ranks → (k : ℕ) → k < round + 1 → AreAllQuiet part (marked_by votes) sent k → ⊥
+  still_going votes runs each mine left some k early all = elim (cases_eq k round) [
+    | inl same ↦ left (quiet_votes votes runs each mine some (subst (AreAllQuiet part (marked_by votes) sent) same all))
+    | inr apart ↦ m.going some k (omega arith) (quiet_before part handled (marked_by votes) sent sent k (votes_stay votes each k) (λ r w h is. is) all)
+  ]
+
   -- a round ends, and the program goes on
-  pub again_marks : (votes : List Vote) (vote : Vote) (due' : LocalArc → Bool) → over ≡ false → length votes ≡ part.ranks → cast ≡ Some vote
+  pub again_marks : (votes : List Vote) (vote : Vote) (due' : LocalArc → Bool) → over ≡ false → length votes ≡ part.ranks → cast ≡ Some vote → slice_get votes part.rank ≡ cast
+      → (((r : ℕ) (w : Vote) → slice_get votes r ≡ Some w → IsQuiet w) → ⊥)
       → Marks part (append_marks part.rank votes handled) sent due' (round + 1) None over false
-  again_marks votes vote due' runs each was = record {
+  again_marks votes vote due' runs each was at_own left = record {
     from_each = length-append_marks part.rank votes handled ∙ m.from_each;
     to_each = m.to_each;
     running = λ e r h.
@@ -194,6 +275,8 @@ module _ (part : Part) (handled sent : List (List (Body Offer))) (due : LocalArc
     quiet = λ w e q a busy. cc;
     ended = λ e. cc;
     own = λ e. cc;
+    told = λ w e. cc;
+    going = still_going votes runs each at_own left;
   }
 
   -- a round ends, and with it the program
@@ -219,6 +302,9 @@ module _ (part : Part) (handled sent : List (List (Body Offer))) (due : LocalArc
               | inr last ↦ subst IsQuiet last.1 (all r a.0 a.1)
             ];
         own = λ e. (vote, was, mine);
+        told = m.told;
+        going = λ some k early all.
+            m.going some k early (quiet_before part handled (marked_by votes) sent sent k (votes_stay votes each k) (λ r w h is. is) all);
       }
 
   -- marks at the end of a round take no item away

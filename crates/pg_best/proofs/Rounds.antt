@@ -4,9 +4,8 @@ use Rattle.std.specs.Prelude.{slice_get}
 use Rattle.pg_group.specs.declared.messages.Body.{Body}
 use Rattle.pg_group.specs.declared.messages.Body.TheVariants.{Item, Mark}
 use Rattle.pg_group.specs.declared.messages.Vote.{Vote}
-use Rattle.pg_group.specs.Rounds.{marks, ends_with_mark, items_of_round}
+use Rattle.pg_group.specs.Rounds.{marks, votes_of, ends_with_mark, items_of_round}
 use Rattle.pg_best.specs.declared.offers.Offer.{Offer}
-use Rattle.pg_best.specs.LocalRelax.{votes_of}
 
 -- each mark has its vote
 pub vote_of_mark : (bs : List (Body Offer)) (k : ℕ) → k < marks bs → (vote : Vote) × (slice_get (votes_of bs) k ≡ Some vote)

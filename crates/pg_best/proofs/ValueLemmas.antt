@@ -1,5 +1,5 @@
 -- The order of values, and induction along it.
-use Rattle.std.proofs.Common.{◌≡◌, ℕ, zero, suc, ◌<◌, ◌≤◌, ◌⊎◌, Option, Some, None, refl, inl, inr, arith}
+use Rattle.std.proofs.Common.{◌≡◌, ℕ, zero, suc, ◌<◌, ◌≤◌, Option, Some, None, refl, inl, inr, arith}
 use Rattle.std.proofs.lemmas.Bool.{cases_lt}
 use Rattle.pg_label.specs.declared.values.Value.{Value}
 use Rattle.pg_label.specs.Values.{AtMost, Below, HasAtMost, IsWithin, start_value, extended}

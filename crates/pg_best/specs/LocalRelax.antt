@@ -1,22 +1,16 @@
 -- What one rank keeps of a relaxation, between the lists handled and sent, by rank, and its cells, by place.
-use Rattle.std.specs.Prelude.{◌≡◌, ◌≢◌, ◌↔◌, ℕ, suc, ◌%◌, ◌<◌, ◌≤◌, Bool, true, false, Option, Some, List, [], ◌∷◌, slice_get, Contains}
+use Rattle.std.specs.Prelude.{◌≡◌, ◌≢◌, ◌↔◌, ℕ, suc, ◌%◌, ◌<◌, ◌≤◌, Bool, true, false, Option, Some, List, [], slice_get, Contains}
 use Rattle.pg_base.specs.Graph.{Arc}
 use Rattle.pg_group.specs.declared.messages.Body.{Body}
-use Rattle.pg_group.specs.declared.messages.Body.TheVariants.{Item, Mark}
+use Rattle.pg_group.specs.declared.messages.Body.TheVariants.{Item}
 use Rattle.pg_group.specs.declared.messages.Vote.{Vote}
 use Rattle.pg_group.specs.Ranked.{IsOther, list_at}
-use Rattle.pg_group.specs.Rounds.{marks, items_of_round}
+use Rattle.pg_group.specs.Rounds.{marks, votes_of, items_of_round}
 use Rattle.pg_label.specs.declared.values.Value.{Value}
 use Rattle.pg_best.specs.declared.offers.Offer.{Offer}
 use Rattle.pg_label.specs.Values.{AtMost, HasAtMost, IsWithin, measure, start_value, extended}
 use Rattle.pg_best.specs.Best.{Label, Belongs}
 use Rattle.pg_best.specs.Parts.{Part, LocalArc, IsAt, Include}
-
--- The votes of the list's marks, in order.
-abbrev pub votes_of : List (Body Offer) → List Vote
-votes_of [] = []
-votes_of (Item o ∷ bs) = votes_of bs
-votes_of (Mark v ∷ bs) = v ∷ votes_of bs
 
 -- The offer is an item of the list by rank.
 abbrev pub IsItemAt : List (List (Body Offer)) → ℕ → Offer → Type 0

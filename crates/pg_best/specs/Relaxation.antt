@@ -10,6 +10,7 @@ use Rattle.pg_best.specs.declared.offers.Offer.{Offer}
 use Rattle.pg_best.specs.Best.{Label, Best}
 use Rattle.pg_best.specs.Parts.{IsVertex, LocalArc, Part, IsDivided}
 use Rattle.pg_best.specs.LocalRelax.{LocalRelax, IsMarked}
+use Rattle.pg_best.specs.Relaxed.{Relaxed}
 
 -- The arc joins vertices.
 pub record IsArc (n : ℕ) (a : Arc) : Type 0 where
@@ -57,3 +58,8 @@ EndIsIdle = (run : Run) → IsRun run → HasEnded run → IsIdle run
 -- In an idle run each cell is the least value over walks.
 abbrev pub IdleIsBest : Type 0
 IdleIsBest = (run : Run) → IsRun run → IsIdle run → (v : ℕ) → IsVertex run.n v → Best run.label run.arcs v (run.cell (run.owner v) (run.place v))
+
+-- In an idle run every arc between two ranks is relaxed.
+abbrev pub IdleIsRelaxed : Type 0
+IdleIsRelaxed = (run : Run) → IsRun run → IsIdle run
+    → Relaxed run.label run.arcs run.owner run.place (λ v. run.cell (run.owner v) (run.place v)) (λ r s. list_at (run.sent r) s)

@@ -1,9 +1,8 @@
 -- A graph that is divided by a distribution is divided as the law of relaxation asks.
-use Rattle.std.proofs.Common.{◌≡◌, ◌==◌, ℕ, zero, suc, ◌<◌, ◌≤◌, Bool, true, List, [], ◌∷◌, length, map, refl, sym, ap, ◌∙◌, subst, arith, Contains, All}
+use Rattle.std.proofs.Common.{◌≡◌, ◌==◌, ℕ, ◌<◌, ◌≤◌, true, List, length, map, refl, sym, ap, ◌∙◌, subst, arith, Contains, All}
 use Rattle.std.specs.Prelude.{slice_index, slice_index_or}
 use Rattle.std.proofs.lemmas.List.{get_or-map, length-map}
 use Rattle.std.proofs.lemmas.List.Elements.{Contains-get_or}
-use Rattle.pg_base.specs.declared.edges.Edge.{Edge}
 use Rattle.pg_base.specs.Graph.{Graph, IsGraph, Arc as GraphArc, arcs_of, arcs_from}
 use Rattle.pg_base.specs.Keyed.{items_of}
 use Rattle.pg_base.proofs.Members.{Contains-filter, Contains-kept}
@@ -13,10 +12,10 @@ use Rattle.pg_adj.specs.Portions.{Portion}
 use Rattle.pg_adj.specs.Incidence.{incidences}
 use Rattle.pg_dist.specs.Sharing.{Sharing, IsSharing}
 use Rattle.pg_adj.specs.Division.{IsPartOf, Divided, undivided, arc_at}
-use Rattle.pg_best.specs.Parts.{IsVertex, LocalArc, Part, IsAt, IsDivided, Include, whole_arc, local_arc}
+use Rattle.pg_best.specs.Parts.{LocalArc, IsDivided, whole_arc, local_arc}
 use Rattle.pg_best.specs.Relaxation.{IsArc}
-use Rattle.pg_relax.specs.States.{row, local_of, arcs_below, part_of}
-use Rattle.pg_relax.proofs.ArcLemmas.{IsOfPlace, among, of_place, no_arc}
+use Rattle.pg_relax.specs.States.{row, local_of, part_of}
+use Rattle.pg_relax.proofs.ArcLemmas.{among, of_place, no_arc}
 
 -- the members of a list that was mapped
 module _ {X Y : Type 0} where

@@ -1,11 +1,11 @@
 -- Which arcs are due.
-use Rattle.std.proofs.Common.{◌≡◌, ◌⊎◌, ℕ, zero, suc, ◌<◌, ◌≤◌, ◌+◌, ◌&&◌, ◌||◌, Bool, true, false, List, [], ◌∷◌, length, refl, sym, ap, ◌∙◌, subst, inl, inr, arith, Option, Some, None, Contains}
+use Rattle.std.proofs.Common.{◌≡◌, ◌⊎◌, ◌<◌, ◌≤◌, ◌+◌, ◌&&◌, ◌||◌, Bool, true, false, ◌∷◌, length, refl, sym, ap, ◌∙◌, inl, inr, Option, Some}
 use Rattle.std.proofs.lemmas.List.{drop_more}
 use Rattle.std.proofs.Math.ListN.{drop_of_length-le}
 use Rattle.std.specs.Prelude.{drop, slice_index_or}
 use Rattle.std.specs.List.{list_any}
 use Rattle.pg_agenda.specs.declared.shares.Share.TheVariants as share
-use Rattle.pg_agenda.specs.Shares.{Places, AreSame}
+use Rattle.pg_agenda.specs.Shares.{Places}
 use Rattle.pg_adj.specs.declared.arcs.Arc.{Arc}
 use Rattle.pg_adj.specs.Portions.{Portion}
 use Rattle.pg_best.specs.Parts.{LocalArc}

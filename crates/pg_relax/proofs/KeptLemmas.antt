@@ -1,29 +1,26 @@
 -- What a rank promises is kept by each of its calls, and holds of the opening state.
-use Rattle.std.proofs.Common.{◌≡◌, ◌≢◌, ◌⊎◌, ◌↔◌, ℕ, zero, suc, ◌<◌, ◌≤◌, ◌+◌, ◌%◌, ◌&&◌, ◌||◌, Bool, true, false, List, [], ◌∷◌, length, replicate, refl, sym, ap, ◌∙◌, subst, inl, inr, arith, Option, Some, None, Contains}
-use Rattle.std.specs.Prelude.{slice_index, slice_get}
-use Rattle.std.proofs.lemmas.Bool.{cases_Bool}
+use Rattle.std.proofs.Common.{◌≡◌, ◌↔◌, ℕ, zero, suc, ◌<◌, ◌+◌, ◌%◌, ◌&&◌, ◌||◌, Bool, true, false, List, [], ◌∷◌, length, refl, sym, ap, ◌∙◌, subst, arith, Option, Some, None}
+use Rattle.std.specs.Prelude.{slice_get}
 use Rattle.pg_group.specs.declared.messages.Body.{Body}
 use Rattle.pg_group.specs.declared.messages.Body.TheVariants.{Item, Mark}
 use Rattle.pg_group.specs.declared.messages.Vote.{Vote}
-use Rattle.pg_group.specs.Ranked.{IsOther, list_at, append_at}
-use Rattle.pg_group.specs.Rounds.{marks, items_of_round}
-use Rattle.pg_group.specs.Supersteps.{append_others, append_marks, nothing}
+use Rattle.pg_group.specs.Ranked.{IsOther, append_at}
+use Rattle.pg_group.specs.Supersteps.{append_others, append_marks}
 use Rattle.pg_label.specs.declared.values.Value.{Value}
 use Rattle.pg_agenda.specs.declared.shares.Share.TheVariants as share
 use Rattle.pg_agenda.specs.Shares.{Places, AreSame, AreNone}
 use Rattle.pg_adj.specs.Portions.{Portion}
 use Rattle.pg_best.specs.declared.offers.Offer.{Offer}
-use Rattle.pg_best.specs.Best.{Label, Belongs}
-use Rattle.pg_best.specs.Parts.{Part, LocalArc, IsAt}
-use Rattle.pg_best.specs.LocalRelax.{IsItemAt, Fits, HasItemFrom, NONE}
-use Rattle.pg_best.specs.Marks.{NoItems, IsQuiet, Marks}
+use Rattle.pg_best.specs.Best.{Label}
+use Rattle.pg_best.specs.Parts.{Part, LocalArc}
+use Rattle.pg_best.specs.LocalRelax.{NONE}
+use Rattle.pg_best.specs.Marks.{IsQuiet, Marks}
 use Rattle.pg_best.proofs.Marking.{handle_marks, send_marks, vote_marks, again_marks, stop_marks, still_handled}
 use Rattle.pg_relax.specs.declared.ahead.Ahead.{Ahead}
-use Rattle.pg_relax.specs.Tables.{value_at}
-use Rattle.pg_relax.specs.States.{part_of, due, is_ahead, Relaxes}
+use Rattle.pg_relax.specs.States.{part_of, due, Relaxes}
 use Rattle.pg_relax.specs.Frontiers.{IsLowered}
-use Rattle.pg_relax.specs.Kept.{HasRelaxed, IsOpening, AreQuiet, IsFitting}
-use Rattle.pg_relax.proofs.DueLemmas.{IsDone, is_done, not_due}
+use Rattle.pg_relax.specs.Kept.{HasRelaxed, AreQuiet, IsFitting}
+use Rattle.pg_relax.proofs.DueLemmas.{not_due}
 use Rattle.pg_relax.proofs.ListLemmas.{voted_items, ended_items, same_items}
 use Rattle.pg_relax.proofs.StepLemmas.{lists_keep, handled_keeps, ignored_keeps}
 
@@ -42,6 +39,8 @@ due_marks part handled sent due due' round over sends m = record {
   quiet = λ vote e q a busy. cc;
   ended = m.ended;
   own = m.own;
+  told = m.told;
+  going = m.going;
 }
 
 -- a rank without a vote has not ended
@@ -64,6 +63,8 @@ less_marks part handled sent due due' round cast over sends less m = record {
   quiet = λ vote e q a busy. m.quiet vote e q a (less a busy);
   ended = m.ended;
   own = m.own;
+  told = m.told;
+  going = m.going;
 }
 
 vote_at : (votes : List Vote) (k : ℕ) → k < length votes → (vote : Vote) × (slice_get votes k ≡ Some vote)
@@ -150,16 +151,16 @@ vote_kept label p takes takes' handled sent values pending pending' round ended 
 
 -- a round ends, with another one to follow
 pub again_kept : (label : Label) (p : Portion) (takes takes' : Places) (handled sent : List (List (Body Offer))) (values : List Value) (pending pending' : Places) (ahead : Option Ahead)
-    (round : ℕ) (cast : Option Vote) (sends : Bool) (votes : List Vote) → AreSame takes takes' → AreSame pending pending' → length votes ≡ p.ranks → slice_get votes p.rank ≡ cast → p.rank < p.ranks
+    (round : ℕ) (cast : Option Vote) (sends : Bool) (votes : List Vote) → AreSame takes takes' → AreSame pending pending' → length votes ≡ p.ranks → slice_get votes p.rank ≡ cast → p.rank < p.ranks → (AreQuiet votes → ⊥)
     → HasRelaxed label p takes handled sent values pending ahead round cast false sends
     → HasRelaxed label p takes' (append_marks p.rank votes handled) sent values pending' ahead (round + 1) None false false
-again_kept label p takes takes' handled sent values pending pending' ahead round cast sends votes st sp each mine within kept =
+again_kept label p takes takes' handled sent values pending pending' ahead round cast sends votes st sp each mine within left kept =
     let part : Part = part_of p in
     let own = vote_at votes p.rank (omega (arith, each, within)) in
     record {
       relaxes = lists_keep label p takes takes' handled sent (append_marks p.rank votes handled) sent values pending pending' ahead
           (ended_items p.rank votes handled) (same_items sent) st sp kept.relaxes;
-      marked = again_marks part handled sent (due p pending takes ahead) round cast false sends kept.marked votes own.0 (due p pending' takes' ahead) refl each (sym mine ∙ own.1);
+      marked = again_marks part handled sent (due p pending takes ahead) round cast false sends kept.marked votes own.0 (due p pending' takes' ahead) refl each (sym mine ∙ own.1) mine left;
     }
 
 -- the last round ends
@@ -192,12 +193,12 @@ module _ (label : Label) (p : Portion) (takes takes' : Places) (handled sent : L
       (subst (λ h. HasRelaxed label p takes handled sent values pending h round None ended sends) rests
       (subst (λ c. HasRelaxed label p takes handled sent values pending ahead round c ended sends) uncast kept)))
 
-  pub at_again : (votes : List Vote) → ended ≡ false → AreSame takes takes' → AreSame pending pending' → length votes ≡ p.ranks → slice_get votes p.rank ≡ cast → p.rank < p.ranks
+  pub at_again : (votes : List Vote) → ended ≡ false → AreSame takes takes' → AreSame pending pending' → length votes ≡ p.ranks → slice_get votes p.rank ≡ cast → p.rank < p.ranks → (AreQuiet votes → ⊥)
       → (round' : ℕ) → round' ≡ round + 1 → HasRelaxed label p takes' (append_marks p.rank votes handled) sent values pending' ahead round' None ended false
-  at_again votes going st sp each mine within round' next =
+  at_again votes going st sp each mine within left round' next =
       subst (λ e. HasRelaxed label p takes' (append_marks p.rank votes handled) sent values pending' ahead round' None e false) (sym going)
       (subst (λ r. HasRelaxed label p takes' (append_marks p.rank votes handled) sent values pending' ahead r None false false) (sym next)
-      (again_kept label p takes takes' handled sent values pending pending' ahead round cast sends votes st sp each mine within
+      (again_kept label p takes takes' handled sent values pending pending' ahead round cast sends votes st sp each mine within left
       (subst (λ e. HasRelaxed label p takes handled sent values pending ahead round cast e sends) going kept)))
 
   pub at_stop : (votes : List Vote) → ended ≡ false → length votes ≡ p.ranks → slice_get votes p.rank ≡ cast → p.rank < p.ranks → AreQuiet votes

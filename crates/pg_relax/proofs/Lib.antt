@@ -9,3 +9,4 @@ pub mod KeptLemmas
 pub mod OpeningLemmas
 pub mod WholeLemmas
 pub mod DivisionLemmas
+pub mod EndingLemmas

@@ -1,6 +1,6 @@
 -- What stands for a ghost was offered to it, at each step.
-use Rattle.std.proofs.Common.{◌≡◌, ◌≢◌, ◌⊎◌, ℕ, zero, suc, ◌<◌, ◌≤◌, List, [], ◌∷◌, length, replicate, refl, sym, ap, ◌∙◌, subst, inl, inr, arith, Option, Some, None, Contains}
-use Rattle.std.specs.Prelude.{slice_get, slice_index_or}
+use Rattle.std.proofs.Common.{◌≡◌, ℕ, zero, suc, ◌<◌, List, length, replicate, refl, sym, ap, ◌∙◌, subst, inl, inr, arith, Option, Some, None, Contains}
+use Rattle.std.specs.Prelude.{slice_get}
 use Rattle.std.proofs.lemmas.Bool.{cases_eq}
 use Rattle.std.proofs.lemmas.Option.{slice_get_within}
 use Rattle.std.proofs.lemmas.List.Elements.{Contains-push}
@@ -18,7 +18,7 @@ use Rattle.pg_best.specs.LocalRelax.{IsItemAt, IsOffered}
 use Rattle.pg_best.proofs.Steps.{joined_before}
 use Rattle.pg_best.proofs.ValueLemmas.{most_refl, most_trans}
 use Rattle.pg_relax.specs.Tables.{nowhere, value_at}
-use Rattle.pg_relax.specs.Offered.{IsSlot, IsKnown, IsSet, IsNoted, toward, AreOffered}
+use Rattle.pg_relax.specs.Offered.{IsKnown, IsNoted, toward, AreOffered}
 use Rattle.pg_relax.proofs.ListLemmas.{SameItems}
 use Rattle.pg_relax.proofs.TableLemmas.{set_here, set_else}
 

@@ -1,24 +1,21 @@
 -- What a rank promises holds of its opening state.
-use Rattle.std.proofs.Common.{◌≡◌, ◌≢◌, ◌⊎◌, ◌↔◌, ℕ, zero, suc, ◌<◌, ◌≤◌, ◌+◌, ◌%◌, Bool, true, false, List, [], ◌∷◌, length, replicate, refl, sym, ap, ◌∙◌, subst, inl, inr, arith, Option, Some, None, Contains}
+use Rattle.std.proofs.Common.{◌≡◌, ◌≢◌, ◌⊎◌, ℕ, zero, suc, ◌<◌, ◌+◌, Bool, false, List, [], length, refl, sym, ap, ◌∙◌, subst, inl, inr, arith, Option, Some, None, Contains}
 use Rattle.std.specs.Prelude.{slice_index, slice_get}
 use Rattle.std.proofs.lemmas.List.{length-replicate}
-use Rattle.pg_base.specs.Graph.{Arc}
 use Rattle.pg_group.specs.declared.messages.Body.{Body}
 use Rattle.pg_group.specs.declared.messages.Body.TheVariants.{Item}
 use Rattle.pg_group.specs.declared.messages.Vote.{Vote}
-use Rattle.pg_group.specs.Ranked.{IsOther, list_at}
-use Rattle.pg_group.specs.Rounds.{marks, items_of_round}
+use Rattle.pg_group.specs.Ranked.{list_at}
+use Rattle.pg_group.specs.Rounds.{marks, items_of_round, votes_of}
 use Rattle.pg_group.specs.Supersteps.{nothing}
 use Rattle.pg_label.specs.declared.values.Value.{Value}
-use Rattle.pg_label.specs.Values.{HasAtMost, IsWithin, start_value, measure}
+use Rattle.pg_label.specs.Values.{HasAtMost, IsWithin, start_value}
 use Rattle.pg_agenda.specs.declared.shares.Share.TheVariants as share
 use Rattle.pg_agenda.specs.Shares.{Places}
 use Rattle.pg_adj.specs.Portions.{Portion}
 use Rattle.pg_best.specs.declared.offers.Offer.{Offer}
 use Rattle.pg_best.specs.Best.{Label, Belongs}
-use Rattle.pg_best.specs.Parts.{Part, LocalArc, IsAt}
-use Rattle.pg_best.specs.LocalRelax.{votes_of, IsItemAt, Fits, LocalRelax}
-use Rattle.pg_best.specs.Marks.{Marks}
+use Rattle.pg_best.specs.Parts.{LocalArc}
 use Rattle.pg_best.proofs.ValueLemmas.{most_refl}
 use Rattle.pg_relax.specs.declared.ahead.Ahead.{Ahead}
 use Rattle.pg_relax.specs.Tables.{value_at}
@@ -28,7 +25,7 @@ use Rattle.pg_relax.specs.Frontiers.{IsLowered}
 use Rattle.pg_relax.proofs.TableLemmas.{set_here, set_else}
 use Rattle.std.proofs.lemmas.Bool.{cases_eq}
 use Rattle.pg_relax.proofs.ArcLemmas.{of_place}
-use Rattle.pg_relax.proofs.DueLemmas.{IsDone, is_done}
+use Rattle.pg_relax.proofs.DueLemmas.{is_done}
 
 none_at : (size rank : ℕ) → list_at {X = Body Offer} (nothing size) rank ≡ []
 none_at zero rank = refl
@@ -102,6 +99,8 @@ module _ (label : Label) (p : Portion) (takes pending : Places) (values : List V
       quiet = λ vote e. cc;
       ended = λ e. cc;
       own = λ e. cc;
+      told = λ vote e. cc;
+      going = λ some k early. absurd (omega (arith, early));
     };
   } where
     no_vote : (k : ℕ) (vote : Vote) → slice_get [] k ≡ Some vote → ⊥

@@ -1,13 +1,13 @@
 -- Passing an arc keeps the law's parts 1 to 3.
-use Rattle.std.proofs.Common.{◌≡◌, ◌≢◌, ◌⊎◌, ℕ, zero, suc, ◌<◌, ◌≤◌, ◌+◌, ◌&&◌, Bool, true, false, List, [], ◌∷◌, length, refl, sym, ap, ◌∙◌, subst, inl, inr, arith, Option, Some, None, Contains, All}
-use Rattle.std.specs.Prelude.{slice_index, slice_index_or, slice_set}
+use Rattle.std.proofs.Common.{◌≡◌, ◌≢◌, ◌⊎◌, ℕ, ◌<◌, ◌≤◌, ◌+◌, ◌&&◌, true, false, List, length, refl, sym, ap, ◌∙◌, subst, inl, inr, arith, Some, None, Contains}
+use Rattle.std.specs.Prelude.{slice_index, slice_index_or}
 use Rattle.std.proofs.lemmas.Bool.{cases_eq}
 use Rattle.std.proofs.lemmas.List.Elements.{Contains-get_or, Contains-push}
 use Rattle.pg_base.specs.declared.numbers.Vertex.{Vertex}
 use Rattle.pg_group.proofs.RollLemmas.{list_at-append_same}
 use Rattle.pg_group.specs.declared.messages.Body.{Body}
 use Rattle.pg_group.specs.declared.messages.Body.TheVariants.{Item}
-use Rattle.pg_group.specs.Ranked.{IsOther, list_at, append_at}
+use Rattle.pg_group.specs.Ranked.{list_at, append_at}
 use Rattle.pg_label.specs.declared.values.Value.{Value}
 use Rattle.pg_label.specs.Values.{AtMost, HasAtMost, IsWithin, extended}
 use Rattle.pg_agenda.specs.declared.shares.Share.{Share}
@@ -17,16 +17,16 @@ use Rattle.pg_adj.specs.declared.arcs.Arc.{Arc}
 use Rattle.pg_adj.specs.Portions.{Portion, IsOwnArc}
 use Rattle.pg_best.specs.declared.offers.Offer.{Offer}
 use Rattle.pg_best.specs.Best.{Label}
-use Rattle.pg_best.specs.Parts.{Part, LocalArc, IsAt}
-use Rattle.pg_best.specs.LocalRelax.{IsItemAt, IsOffered, LocalRelax}
-use Rattle.pg_best.proofs.Steps.{IsExtension, IsHandled, IsRelaxed, Steps, step_keeps, joined_cases, joined_before}
+use Rattle.pg_best.specs.Parts.{LocalArc, IsAt}
+use Rattle.pg_best.specs.LocalRelax.{IsOffered}
+use Rattle.pg_best.proofs.Steps.{IsExtension, IsRelaxed, step_keeps, joined_cases, joined_before}
 use Rattle.pg_best.proofs.ValueLemmas.{most_refl}
 use Rattle.pg_relax.specs.declared.ahead.Ahead.{Ahead}
 use Rattle.pg_relax.specs.Tables.{value_at}
-use Rattle.pg_relax.specs.States.{row, local_of, arcs_below, part_of, is_from, is_ahead, due, Relaxes}
-use Rattle.pg_relax.specs.Frontiers.{IsLowered, WasLow, Fell}
+use Rattle.pg_relax.specs.States.{row, local_of, part_of, is_from, is_ahead, due, Relaxes}
+use Rattle.pg_relax.specs.Frontiers.{WasLow, Fell}
 use Rattle.pg_relax.specs.Offered.{AreOffered}
-use Rattle.pg_relax.specs.Passing.{Extends, GivesNone, LowersOwn, HoldsBack, IsPassed, IsOfferOf, KeepsOver, from_arc}
+use Rattle.pg_relax.specs.Passing.{Extends, GivesNone, HoldsBack, IsPassed, IsOfferOf, KeepsOver, from_arc}
 use Rattle.pg_relax.proofs.OfferedLemmas.{offered_along}
 use Rattle.pg_relax.proofs.ArcLemmas.{among}
 use Rattle.pg_relax.proofs.DueLemmas.{IsDone, is_done, not_due, passed_cases, none_from}

@@ -1,6 +1,6 @@
 -- The other steps of a rank that keep the law's parts 1 to 3: an offer is handled, a place is taken up, marks are appended.
-use Rattle.std.proofs.Common.{◌≡◌, ◌≢◌, ◌⊎◌, ℕ, zero, suc, ◌<◌, ◌≤◌, ◌+◌, ◌&&◌, Bool, true, false, List, [], ◌∷◌, length, refl, sym, ap, ◌∙◌, subst, inl, inr, arith, Option, Some, None, Contains}
-use Rattle.std.specs.Prelude.{slice_index, slice_set}
+use Rattle.std.proofs.Common.{◌≡◌, ◌≢◌, ◌⊎◌, ℕ, ◌<◌, ◌≤◌, ◌+◌, ◌&&◌, Bool, true, false, List, length, refl, sym, ap, ◌∙◌, subst, inl, inr, arith, Option, Some, None, Contains}
+use Rattle.std.specs.Prelude.{slice_index}
 use Rattle.std.proofs.lemmas.Bool.{cases_eq}
 use Rattle.std.proofs.lemmas.List.Elements.{Contains-push}
 use Rattle.pg_group.proofs.RollLemmas.{list_at-append_same}
@@ -8,21 +8,21 @@ use Rattle.pg_group.specs.declared.messages.Body.{Body}
 use Rattle.pg_group.specs.declared.messages.Body.TheVariants.{Item}
 use Rattle.pg_group.specs.Ranked.{IsOther, list_at, append_at}
 use Rattle.pg_label.specs.declared.values.Value.{Value}
-use Rattle.pg_label.specs.Values.{AtMost, HasAtMost, IsWithin}
+use Rattle.pg_label.specs.Values.{HasAtMost, IsWithin}
 use Rattle.pg_agenda.specs.declared.shares.Share.{Share}
 use Rattle.pg_agenda.specs.declared.shares.Share.TheVariants as share
 use Rattle.pg_agenda.specs.Shares.{Places, AreSame}
 use Rattle.pg_adj.specs.Portions.{Portion}
 use Rattle.pg_best.specs.declared.offers.Offer.{Offer}
 use Rattle.pg_best.specs.Best.{Label}
-use Rattle.pg_best.specs.Parts.{Part, LocalArc, IsAt}
-use Rattle.pg_best.specs.LocalRelax.{IsItemAt, Fits, LocalRelax}
-use Rattle.pg_best.proofs.Steps.{IsExtension, IsHandled, IsRelaxed, Steps, step_keeps, joined_cases, joined_before}
+use Rattle.pg_best.specs.Parts.{LocalArc}
+use Rattle.pg_best.specs.LocalRelax.{Fits}
+use Rattle.pg_best.proofs.Steps.{step_keeps, joined_cases, joined_before}
 use Rattle.pg_best.proofs.ValueLemmas.{most_refl}
 use Rattle.pg_relax.specs.declared.ahead.Ahead.{Ahead}
 use Rattle.pg_relax.specs.Tables.{value_at}
 use Rattle.pg_relax.specs.States.{row, local_of, is_arc, part_of, is_from, is_ahead, due, Relaxes}
-use Rattle.pg_relax.specs.Frontiers.{IsLowered, WasLow, Fell}
+use Rattle.pg_relax.specs.Frontiers.{IsLowered}
 use Rattle.std.specs.Prelude.{IfSome, IfNone}
 use Rattle.pg_base.specs.declared.numbers.RankNo.{RankNo}
 use Rattle.pg_relax.specs.Offered.{AreOffered}

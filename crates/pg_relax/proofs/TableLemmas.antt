@@ -1,9 +1,9 @@
 -- Values by place after one was set.
-use Rattle.std.proofs.Common.{◌≡◌, ◌≢◌, ◌==◌, ℕ, zero, suc, ◌<◌, ◌≤◌, Bool, true, false, List, [], ◌∷◌, length, refl, sym, ap, ◌∙◌, subst, arith, Option, Some, None}
-use Rattle.std.specs.Prelude.{slice_set, slice_index_or}
+use Rattle.std.proofs.Common.{◌≡◌, ◌≢◌, ℕ, zero, suc, ◌<◌, List, [], ◌∷◌, length, refl, ap, arith, Option, Some, None}
+use Rattle.std.specs.Prelude.{slice_set}
 use Rattle.pg_label.specs.declared.values.Value.{Value}
 use Rattle.pg_label.specs.Values.{AtMost, HasAtMost, IsWithin}
-use Rattle.pg_relax.specs.Tables.{nowhere, shown, value_at}
+use Rattle.pg_relax.specs.Tables.{shown, value_at}
 use Rattle.pg_relax.specs.Frontiers.{HasBelow}
 
 pub shown_within : (y : Value) → IsWithin y → shown y ≡ Some y

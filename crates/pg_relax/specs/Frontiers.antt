@@ -1,5 +1,5 @@
 -- What lowering a value does.
-use Rattle.std.specs.Prelude.{◌≡◌, ◌≢◌, ◌⊎◌, ℕ, Bool, true, List, Option, Some, None, ⊤, slice_set}
+use Rattle.std.specs.Prelude.{◌≡◌, ◌≢◌, ◌⊎◌, ℕ, true, List, Option, Some, None, ⊤, slice_set}
 use Rattle.pg_label.specs.declared.values.Value.{Value}
 use Rattle.pg_label.specs.Values.{Below, HasAtMost}
 use Rattle.pg_agenda.specs.declared.shares.Share.{Share}

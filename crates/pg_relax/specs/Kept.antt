@@ -1,11 +1,10 @@
 -- What a rank that relaxes promises of a whole run, and its opening state.
 -- Source: after Gregor and Lumsdaine, Lifting sequential graph algorithms for distributed-memory parallel computation (OOPSLA 2005).
-use Rattle.std.specs.Prelude.{◌≡◌, ◌⊎◌, ◌<◌, ◌≤◌, ℕ, Bool, true, false, Option, Some, None, List, length, slice_index, slice_get}
+use Rattle.std.specs.Prelude.{◌≡◌, ◌⊎◌, ◌<◌, ◌≤◌, ℕ, Bool, true, Option, Some, None, List, length, slice_index, slice_get}
 use Rattle.pg_group.specs.declared.messages.Body.{Body}
 use Rattle.pg_group.specs.declared.messages.Vote.{Vote}
 use Rattle.pg_label.specs.declared.values.Value.{Value}
 use Rattle.pg_label.specs.Values.{IsWithin, start_value}
-use Rattle.pg_agenda.specs.declared.shares.Share.{Share}
 use Rattle.pg_agenda.specs.declared.shares.Share.TheVariants as share
 use Rattle.pg_agenda.specs.Shares.{Places}
 use Rattle.pg_adj.specs.Portions.{Portion}

@@ -7,4 +7,5 @@ pub mod Passing
 pub mod Kept
 pub mod Items
 pub mod Whole
+pub mod Endings
 pub mod Shown

@@ -1,6 +1,6 @@
 -- What was offered to the ghosts of a part: the least value for each, which saves later offers that are no better.
 -- Source: the ghost cells of Gregor and Lumsdaine, Lifting sequential graph algorithms for distributed-memory parallel computation (OOPSLA 2005).
-use Rattle.std.specs.Prelude.{◌≡◌, ◌⊎◌, ℕ, Option, Some, List, slice_get, slice_set}
+use Rattle.std.specs.Prelude.{◌≡◌, ◌⊎◌, ℕ, Some, List, slice_get, slice_set}
 use Rattle.pg_group.specs.declared.messages.Body.{Body}
 use Rattle.pg_label.specs.declared.values.Value.{Value}
 use Rattle.pg_label.specs.Values.{HasAtMost}

@@ -1,12 +1,10 @@
 -- What a relaxation shows of itself, and what it promises.
-use Rattle.std.specs.Prelude.{◌≡◌, ℕ, false, Option, None, List}
+use Rattle.std.specs.Prelude.{◌≡◌, ℕ, false, None, List}
 use Rattle.pg_group.specs.declared.messages.Body.{Body}
 use Rattle.pg_label.specs.declared.labels.Label.{Ghosts as LabelGhosts}
-use Rattle.pg_label.specs.declared.values.Value.{Value}
 use Rattle.pg_agenda.specs.declared.agendas.Agenda.{Ghosts as AgendaGhosts}
 use Rattle.pg_adj.specs.Portions.{Portion}
 use Rattle.pg_best.specs.declared.offers.Offer.{Offer}
-use Rattle.pg_best.specs.Best.{Label}
 use Rattle.pg_relax.specs.declared.relaxing.Relax.{Relax}
 use Rattle.pg_relax.specs.Rounds.{count_of}
 use Rattle.pg_relax.specs.States.{label_of}

@@ -1,10 +1,9 @@
 -- What a rank that relaxes shows, as the law of relaxation has it.
-use Rattle.std.specs.Prelude.{◌≡◌, ◌==◌, ◌&&◌, ◌||◌, ℕ, zero, suc, Bool, true, false, Option, Some, None, List, [], ◌++◌, length, map, drop}
+use Rattle.std.specs.Prelude.{◌==◌, ◌&&◌, ◌||◌, ℕ, zero, suc, Bool, false, Option, Some, None, List, [], ◌++◌, length, map, drop}
 use Rattle.std.specs.List.{list_any}
 use Rattle.pg_base.specs.Keyed.{row_of}
 use Rattle.pg_group.specs.declared.messages.Body.{Body}
 use Rattle.pg_label.specs.declared.values.Value.{Value}
-use Rattle.pg_agenda.specs.declared.shares.Share.{Share}
 use Rattle.pg_agenda.specs.declared.shares.Share.TheVariants as share
 use Rattle.pg_agenda.specs.Shares.{Places}
 use Rattle.pg_adj.specs.declared.arcs.Arc.{Arc}

@@ -13,6 +13,7 @@ use Rattle.pg_adj.specs.Portions.{Portion}
 use Rattle.pg_best.specs.declared.offers.Offer.{Offer}
 use Rattle.pg_best.specs.Best.{Label, Best}
 use Rattle.pg_best.specs.Parts.{IsVertex, IsDivided}
+use Rattle.pg_best.specs.Relaxed.{Relaxed}
 use Rattle.pg_best.specs.Relaxation.{IsArc}
 use Rattle.pg_relax.specs.declared.ahead.Ahead.{Ahead}
 use Rattle.pg_relax.specs.Tables.{value_at}
@@ -53,3 +54,10 @@ WholeIsBest = (label : Label) (n ranks : ℕ) (arcs : List Arc) (owner place : �
     → AreDivided label n ranks arcs owner place states → IsWhole ranks sent taken → IsMarked ranks sent
     → ((r : ℕ) → r < ranks → HasRelaxedOver label ranks r sent taken (states r))
     → (v : ℕ) → IsVertex n v → Best label arcs v (value_at (states (owner v)).values (place v))
+
+-- Likewise each arc between two ranks is relaxed by an offer that the book holds.
+abbrev pub WholeIsRelaxed : Type 0
+WholeIsRelaxed = (label : Label) (n ranks : ℕ) (arcs : List Arc) (owner place : ℕ → ℕ) (states : ℕ → State) (sent taken : PairLists Offer)
+    → AreDivided label n ranks arcs owner place states → IsWhole ranks sent taken → IsMarked ranks sent
+    → ((r : ℕ) → r < ranks → HasRelaxedOver label ranks r sent taken (states r))
+    → Relaxed label arcs owner place (λ v. value_at (states (owner v)).values (place v)) sent

@@ -1,5 +1,5 @@
 -- What the steps of a turn take and send at most.
-use Rattle.std.proofs.Common.{◌≡◌, ◌≢◌, ◌⊎◌, inl, inr, ℕ, zero, suc, ◌+◌, ◌<◌, ◌≤◌, List, [], ◌∷◌, ◌++◌, length, refl, sym, ap, ◌∙◌, subst, arith, length-append}
+use Rattle.std.proofs.Common.{◌≡◌, ◌≢◌, inl, inr, ℕ, zero, suc, ◌+◌, ◌<◌, ◌≤◌, List, [], ◌∷◌, ◌++◌, length, refl, ap, ◌∙◌, arith, length-append}
 use Rattle.std.proofs.lemmas.Bool.{cases_eq, cases_lt}
 use Rattle.pg_group.specs.declared.messages.Body.{Body}
 use Rattle.pg_group.specs.declared.messages.Body.TheVariants.{Item, Mark}
@@ -7,7 +7,7 @@ use Rattle.pg_group.specs.declared.messages.Vote.{Vote}
 use Rattle.pg_group.specs.declared.programs.Program.{Ghosts as ProgramGhosts}
 use Rattle.pg_group.specs.declared.outboxes.Outbox.{Ghosts as OutboxGhosts}
 use Rattle.pg_group.specs.declared.mailboxes.Mailbox.{Ghosts as MailboxGhosts}
-use Rattle.pg_group.specs.Ranked.{IsOther, append_at, list_at}
+use Rattle.pg_group.specs.Ranked.{append_at, list_at}
 use Rattle.pg_group.specs.Supersteps.{SentAtMostOne}
 use Rattle.pg_run.specs.Bounds.{item_count, items_together, AtMost, OnlyFrom}
 use Rattle.pg_run.specs.declared.runners.Runner.{Runner}

@@ -9,3 +9,5 @@ pub mod WholeBook
 pub mod Fresh
 pub mod Seating
 pub mod Ready
+pub mod Sending
+pub mod Blocks

@@ -2,7 +2,10 @@ pub mod Rounds
 pub mod Kept
 pub mod Steps
 pub mod Turns
+pub mod Calls
+pub mod Repeated
 pub mod Driven
+pub mod Blocks
 pub mod Lanes
 pub mod Room
 pub mod Machines

@@ -159,3 +159,17 @@ fn a_run_works_each_item_once(rt: HostRuntime) -> Result<(), Fail> {
     }
     Ok(())
 }
+
+#[test]
+fn a_run_goes_on_after_a_pass_of_100_000_turns(rt: HostRuntime) -> Result<(), Fail> {
+    let ranks = Ranks::new(2).ok_or("no number of ranks")?;
+    let programs = busy_programs(rt.alloc(), ranks, 30_000_000)?;
+    let group = assemble::<Busy, RingLanes>(&(), rt.alloc(), programs, 1)?;
+    let finished = run(&rt, group, 2, &OpenGate);
+    assert_eq!(rt; finished.programs.len(), 2);
+    for program in &finished.programs {
+        assert_eq!(rt; program.left, 0);
+        assert_eq!(rt; program.calls, 30_000_001);
+    }
+    Ok(())
+}

@@ -3,6 +3,8 @@
 
 #[cfg(test)]
 mod counting_tests;
+mod cutting;
+mod driven;
 mod driving;
 mod ending;
 mod finished;
@@ -18,6 +20,9 @@ mod runners;
 mod running;
 #[cfg(test)]
 mod tests;
+#[cfg(test)]
+mod thread_tests;
+mod threading;
 mod turning;
 mod turns;
 mod working;

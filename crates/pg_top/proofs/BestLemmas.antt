@@ -1,11 +1,8 @@
 -- A relaxation of a divided graph ends with the best values, and by hops with the least numbers of arcs.
-use Rattle.std.proofs.Common.{◌≡◌, ℕ, zero, suc, ◌+◌, ◌^◌, ◌<◌, ◌≤◌, List, [], ◌∷◌, length, map, refl, sym, ap, ◌∙◌, subst, arith, Option, Some, None, Contains, All}
-use Rattle.std.specs.Prelude.{slice_get, slice_index_or}
+use Rattle.std.proofs.Common.{◌≡◌, ℕ, zero, suc, ◌+◌, ◌^◌, ◌<◌, ◌≤◌, List, [], ◌∷◌, length, refl, sym, ap, ◌∙◌, subst, arith, Option, Some, None, Contains, All}
+use Rattle.std.specs.Prelude.{option_and_then, slice_get, slice_index_or}
 use Rattle.std.proofs.lemmas.List.Elements.{All-contains}
-use Rattle.pg_base.specs.Graph.{Graph, IsGraph, Arc, arcs_of}
-use Rattle.pg_base.specs.Walk.{LeastArcs}
-use Rattle.pg_base.specs.Distances.{AreLeastArcs}
-use Rattle.pg_group.specs.Entries.{Each}
+use Rattle.pg_base.specs.Graph.{Graph, IsGraph, Arc, arcs_of, forward, backward}
 use Rattle.pg_group.proofs.Growing.{entry_map}
 use Rattle.pg_group.proofs.ByRank.{length_of_map}
 use Rattle.pg_lane.specs.declared.settling.Settled.{Settled}
@@ -15,26 +12,24 @@ use Rattle.pg_best.specs.declared.offers.Offer.{Offer}
 use Rattle.pg_dist.specs.Sharing.{Sharing, IsSharing}
 use Rattle.pg_adj.specs.Portions.{Portion}
 use Rattle.pg_label.specs.declared.labels.Label.{Ghosts as LabelGhosts}
-use Rattle.pg_label.specs.declared.labels.Hops.{Hops}
-use Rattle.pg_agenda.specs.declared.levels.Levels.{Levels}
-use Rattle.pg_label.specs.contracts.labels.HopsLabel.TheImpl.{ghosts as hops}
-use Rattle.pg_agenda.specs.contracts.levels.LevelsAgenda.TheImpl.{ghosts as levels}
 use Rattle.pg_agenda.specs.declared.agendas.Agenda.{Ghosts as AgendaGhosts}
-use Rattle.pg_best.specs.Best.{Label, Best}
-use Rattle.pg_best.specs.Labels.{hops_from, amount_in}
-use Rattle.pg_best.specs.Parts.{IsVertex, IsAt, IsDivided, Include, Part, local_arc}
+use Rattle.pg_best.specs.Best.{Best}
+use Rattle.pg_best.specs.Parts.{IsAt, IsDivided, Include, Part, local_arc}
 use Rattle.pg_best.specs.Relaxation.{IsArc}
-use Rattle.pg_best.proofs.LabelLemmas.{hops_are_least}
 use Rattle.pg_relax.specs.declared.relaxing.Relax.{Relax}
 use Rattle.pg_relax.specs.Shown.{part_in, label_in, state_of}
 use Rattle.pg_relax.specs.States.{part_of, label_of}
 use Rattle.pg_relax.specs.Tables.{value_at}
 use Rattle.pg_relax.specs.Kept.{HasRelaxed}
 use Rattle.std.proofs.lemmas.Option.{slice_get_within}
-use Rattle.pg_relax.specs.Whole.{State, HasRelaxedOver}
+use Rattle.pg_best.specs.Relaxed.{Relaxed}
+use Rattle.pg_relax.specs.Whole.{State, AreDivided, HasRelaxedOver}
 use Rattle.pg_relax.proofs.DivisionLemmas.{divided_parts, arcs_join}
-use Rattle.pg_relax.proofs.WholeLemmas.{whole_is_best}
-use Rattle.pg_top.specs.Relaxed.{IsRelaxation, AreAnswers, AreInOrder, HavePlaces}
+use Rattle.pg_relax.proofs.WholeLemmas.{whole_is_best, whole_is_relaxed}
+use Rattle.pg_base.specs.declared.edges.Edge.{Edge}
+use Rattle.pg_label.specs.declared.values.Value.{Value}
+use Rattle.pg_top.specs.declared.columns.Field.{Field}
+use Rattle.pg_top.specs.Relaxed.{IsRelaxation, AreAnswers, AreInOrder, HavePlaces, field_in, value_of}
 use Rattle.pg_adj.specs.Division.{Divided}
 use Rattle.pg_top.proofs.RunLemmas.{entry_below}
 
@@ -79,27 +74,29 @@ module _ {L A : Type 0} {l : LabelGhosts L} {a : AgendaGhosts A} (label : L) (s 
       let o = opening_at r p at in
       (run.run.kept r p at o.0 o.1).keeps.label ∙ run.run.labels r o.0 o.1
 
-  pub best_at : (v : ℕ) (p : Relax L A l a) → 1 ≤ v → v ≤ g.n → slice_get programs (s.owner v) ≡ Some p
-      → Best (label_of (l.start label) (l.add label)) (arcs_of g.edges) v (value_at (state_of p).values (s.local v))
-  best_at v p first last at =
-      let states : ℕ → State = λ r. state_of (slice_index_or programs r p) in
-      let mine : slice_index_or programs (s.owner v) p ≡ p = got programs (s.owner v) p p at in
-      let here : (r : ℕ) → r < s.ranks → (q : Relax L A l a) × (slice_get programs r ≡ Some q) = λ r h. entry_below programs r (omega (arith, h, run.run.count)) in
-      subst (λ q. Best (label_of (l.start label) (l.add label)) (arcs_of g.edges) v (value_at (state_of q).values (s.local v))) mine
-      (whole_is_best (label_of (l.start label) (l.add label)) g.n s.ranks (arcs_of g.edges) s.owner s.local states (sent_on s.ranks lanes) (taken_on s.ranks lanes)
-      (record {
-        size = is.vertices;
-        joining = arcs_join g is;
-        costs = costs;
-        divided = divided_alike g.n s.ranks (arcs_of g.edges) s.owner s.local (λ r. part_of (slice_index_or run.parts r (part_in p))) (λ r. part_of (states r).part) (arcs_join g is)
-            (λ r h. let q = here r h in ap part_of (part_stays r q.0 p q.1 ∙ ap part_in (sym (got programs r q.0 p q.1))))
-            (divided_parts s laws g is run.parts run.divided same (part_in p));
-      }) run.run.book run.run.marks
-      (λ r h.
+  -- what the rank's program shows, for ranks that have one
+  abbrev states_by : Relax L A l a → ℕ → State
+  states_by d r = state_of (slice_index_or programs r d)
+
+  here : (r : ℕ) → r < s.ranks → (q : Relax L A l a) × (slice_get programs r ≡ Some q)
+  here r h = entry_below programs r (omega (arith, h, run.run.count))
+
+  divided_among : (d : Relax L A l a) → AreDivided (label_of (l.start label) (l.add label)) g.n s.ranks (arcs_of g.edges) s.owner s.local (states_by d)
+  divided_among d = record {
+    size = is.vertices;
+    joining = arcs_join g is;
+    costs = costs;
+    divided = divided_alike g.n s.ranks (arcs_of g.edges) s.owner s.local (λ r. part_of (slice_index_or run.parts r (part_in d))) (λ r. part_of (states_by d r).part) (arcs_join g is)
+        (λ r h. let q = here r h in ap part_of (part_stays r q.0 d q.1 ∙ ap part_in (sym (got programs r q.0 d q.1))))
+        (divided_parts s laws g is run.parts run.divided same (part_in d));
+  }
+
+  kept_by : (d : Relax L A l a) (r : ℕ) → r < s.ranks → HasRelaxedOver (label_of (l.start label) (l.add label)) s.ranks r (sent_on s.ranks lanes) (taken_on s.ranks lanes) (states_by d r)
+  kept_by d r h =
       let q = here r h in
       let o = opening_at r q.0 q.1 in
       let k = run.run.kept r q.0 q.1 o.0 o.1 in
-      subst (λ x. HasRelaxedOver (label_of (l.start label) (l.add label)) s.ranks r (sent_on s.ranks lanes) (taken_on s.ranks lanes) (state_of x)) (sym (got programs r q.0 p q.1))
+      subst (λ x. HasRelaxedOver (label_of (l.start label) (l.add label)) s.ranks r (sent_on s.ranks lanes) (taken_on s.ranks lanes) (state_of x)) (sym (got programs r q.0 d q.1))
       (record {
         handled = k.handled;
         promised = k.promised;
@@ -107,13 +104,32 @@ module _ {L A : Type 0} {l : LabelGhosts L} {a : AgendaGhosts A} (label : L) (s 
         keeps = let t = state_of q.0 in subst (λ x. HasRelaxed (label_of (l.start x) (l.add x)) t.part t.takes k.handled k.promised t.values t.pending t.ahead t.round t.cast t.ended t.sends) (label_stays r q.0 q.1) k.keeps.relaxed;
         handled_is = k.handled_is;
         sent_is = k.sent_is;
-      }))
-      v (record { first = first; last = last }))
+      })
+
+  -- the value of a vertex, by the program of its owner
+  value_by : (d : Relax L A l a) (v : ℕ) → 1 ≤ v → v ≤ g.n → value_of s programs v ≡ value_at (states_by d (s.owner v)).values (s.local v)
+  value_by d v first last =
+      let q = here (s.owner v) (laws.owner_is_rank v first (omega (arith, last, same))) in
+      ap (option_and_then (λ p. value_at (state_of p).values (s.local v))) q.1 ∙ ap (λ p. value_at (state_of p).values (s.local v)) (sym (got programs (s.owner v) q.0 d q.1))
+
+  pub best_at : (v : ℕ) → 1 ≤ v → v ≤ g.n → Best (label_of (l.start label) (l.add label)) (arcs_of g.edges) v (value_of s programs v)
+  best_at v first last =
+      let q = here (s.owner v) (laws.owner_is_rank v first (omega (arith, last, same))) in
+      subst (Best (label_of (l.start label) (l.add label)) (arcs_of g.edges) v) (sym (value_by q.0 v first last))
+      (whole_is_best (label_of (l.start label) (l.add label)) g.n s.ranks (arcs_of g.edges) s.owner s.local (states_by q.0) (sent_on s.ranks lanes) (taken_on s.ranks lanes)
+      (divided_among q.0) run.run.book run.run.marks (kept_by q.0) v (record { first = first; last = last }))
+
+  pub lanes_are_relaxed : Relaxed (label_of (l.start label) (l.add label)) (arcs_of g.edges) s.owner s.local (value_of s programs) (sent_on s.ranks lanes)
+  lanes_are_relaxed arc x given apart has within =
+      let ends = All-contains (IsArc g.n) (arcs_of g.edges) arc (arcs_join g is) given in
+      let q = here (s.owner arc.from) (laws.owner_is_rank arc.from ends.from.first (omega (arith, ends.from.last, same))) in
+      whole_is_relaxed (label_of (l.start label) (l.add label)) g.n s.ranks (arcs_of g.edges) s.owner s.local (states_by q.0) (sent_on s.ranks lanes) (taken_on s.ranks lanes)
+      (divided_among q.0) run.run.book run.run.marks (kept_by q.0) arc x given apart (sym (value_by q.0 arc.from ends.from.first ends.from.last) ∙ has) within
 
 -- the places of a relaxation's vertices
-pub places_of : {L A : Type 0} {l : LabelGhosts L} {a : AgendaGhosts A} (label : L) (s : Sharing) (laws : IsSharing s) (g : Graph) (is : IsGraph g) (same : g.n ≡ s.n) (capacity : ℕ)
+pub places_of : {L A : Type 0} {l : LabelGhosts L} {a : AgendaGhosts A} (label : L) (s : Sharing) (laws : IsSharing s) (g : Graph) (capacity : ℕ)
     (programs : List (Relax L A l a)) (lanes : List (Settled (Envelope Offer))) → IsRelaxation label s g capacity programs lanes → HavePlaces s programs
-places_of label s laws g is same capacity programs lanes run v p first last at =
+places_of label s laws g capacity programs lanes run v p first last at =
     let h = laws.owner_is_rank v first last in
     let stays : slice_index_or run.parts (s.owner v) (part_in p) ≡ part_in p = part_stays_at label s g capacity programs lanes run (s.owner v) p at in
     let part = run.divided.part (s.owner v) (part_in p) h in
@@ -127,18 +143,22 @@ divided_in_order s g parts d k p at =
     let same : slice_index_or parts k p ≡ p = got parts k p p at in
     (ap (λ (q : Portion). q.rank) (sym same) ∙ part.rank, ap (λ (q : Portion). q.ranks) (sym same) ∙ (part.ranks ∙ sym d.count))
 
--- The answers of a search by hops are the least numbers of arcs.
-pub search_is_least : (source : Hops) (s : Sharing) → IsSharing s → (g : Graph) → IsGraph g → g.n ≡ s.n → (capacity : ℕ) (programs : List (Relax Hops Levels hops levels)) (lanes : List (Settled (Envelope Offer)))
-    → IsRelaxation source s g capacity programs lanes → (answers : List (Option ℕ)) → AreAnswers s programs answers → AreLeastArcs g source.source answers
-search_is_least source s laws g is same capacity programs lanes run answers are = record {
-  count = are.count ∙ sym same;
-  each = λ v h.
-      let l : v < s.n = omega (arith, h, same) in
-      let owned = laws.owner_is_rank (v + 1) (omega arith) (omega (arith, l)) in
-      let p = entry_below programs (s.owner (v + 1)) (omega (arith, owned, run.run.count)) in
-      let best = best_at source s laws g is same capacity programs lanes run (all_cheap (arcs_of g.edges)) (v + 1) p.0 (omega arith) (omega (arith, h)) p.1 in
-      subst (LeastArcs (arcs_of g.edges) source.source (v + 1)) (sym (are.each v p.0 l p.1))
-      (hops_are_least (arcs_of g.edges) source.source (v + 1) (value_at (state_of p.0).values (s.local (v + 1))) best);
-} where
-  all_cheap : (arcs : List Arc) → All (λ (b : Arc). 1 < 2 ^ 32) arcs
-  all_cheap arcs k d h = omega arith
+-- The numbers that are answered are those of the best values.
+module _ {L A : Type 0} {l : LabelGhosts L} {a : AgendaGhosts A} (label : L) (field : Field) (s : Sharing) (laws : IsSharing s) (g : Graph) (is : IsGraph g) (same : g.n ≡ s.n) (capacity : ℕ)
+    (programs : List (Relax L A l a)) (lanes : List (Settled (Envelope Offer))) (run : IsRelaxation label s g capacity programs lanes) (costs : All (λ (b : Arc). l.add label b.weight < 2 ^ 32) (arcs_of g.edges))
+    (answers : List (Option ℕ)) (are : AreAnswers field s programs answers) where
+  pub answered : (v : ℕ) → v < g.n → (value : Option Value) × Best (label_of (l.start label) (l.add label)) (arcs_of g.edges) (v + 1) value × (slice_index_or answers v None ≡ field_in field value)
+  answered v h =
+      let within : v < s.n = omega (arith, h, same) in
+      (value_of s programs (v + 1), best_at label s laws g is same capacity programs lanes run costs (v + 1) (omega arith) (omega (arith, h)), are.each v within)
+
+-- two arcs of this weight before others
+fits_behind : (w : ℕ) (x y : Arc) (arcs : List Arc) → x.weight ≡ w → y.weight ≡ w → w < 2 ^ 32 → All (λ (b : Arc). b.weight < 2 ^ 32) arcs → All (λ (b : Arc). b.weight < 2 ^ 32) (x ∷ y ∷ arcs)
+fits_behind w x y arcs a b fit rest zero d h = omega (arith, a, fit)
+fits_behind w x y arcs a b fit rest (suc zero) d h = omega (arith, b, fit)
+fits_behind w x y arcs a b fit rest (suc (suc k)) d h = rest k d (omega arith)
+
+-- each arc of a graph weighs what an edge weighs
+pub arcs_fit : (edges : List Edge) → All (λ (e : Edge). e.w < 2 ^ 32) edges → All (λ (b : Arc). b.weight < 2 ^ 32) (arcs_of edges)
+arcs_fit [] fit = λ k d h. absurd (omega arith)
+arcs_fit (e ∷ edges) fit = fits_behind e.w (forward e) (backward e) (arcs_of edges) refl refl (fit 0 e (omega arith)) (arcs_fit edges (λ k d h. fit (suc k) d (omega arith)))

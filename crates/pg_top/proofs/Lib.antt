@@ -1,6 +1,10 @@
-pub mod Causes
 pub mod SearchTexts
 pub mod Steps
 pub mod RunLemmas
 pub mod BestLemmas
 pub mod Outcomes
+mod Sending
+pub mod AnswerLemmas
+pub mod RightLemmas
+pub mod InputLemmas
+pub mod Causes

@@ -1,6 +1,6 @@
 -- From what a write came to, to what a run came to.
 use Rattle.std.proofs.Common.{◌≡◌, sym, subst}
-use Rattle.std.specs.Prelude.{OnOk, OnErr, IfErr, Result, Ok, Err}
+use Rattle.std.specs.Prelude.{OnOk, OnErr, IfErr, IfOk, Result, Ok, Err}
 use Rattle.pg_print.specs.declared.faults.Fault.{Fault}
 use Rattle.pg_print.specs.declared.faults.Fault.TheVariants.{Write}
 
@@ -22,3 +22,12 @@ from_ok {P = P} r x is h = subst (λ o. OnOk o P) is h
 
 pub from_err : (r : Result (Unit {0}) Fault) (e : Fault) (R : Fault → Type 0) → r ≡ Err e → IfErr r R → R e
 from_err r e R is h = subst (λ o. IfErr o R) is h
+
+-- what two facts of a value that is there give
+pub ok_both : {T E : Type 0} (r : Result T E) (P Q R : T → Type 0) → IfOk r P → IfOk r Q → ((x : T) → P x → Q x → R x) → IfOk r R
+ok_both (Ok x) P Q R p q f = f x p q
+ok_both (Err e) P Q R p q f = p
+
+pub ok_then : {T E : Type 0} (r : Result T E) (P Q : T → Type 0) → IfOk r P → ((x : T) → P x → Q x) → IfOk r Q
+ok_then (Ok x) P Q p f = f x p
+ok_then (Err e) P Q p f = p

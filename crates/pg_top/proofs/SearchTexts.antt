@@ -4,13 +4,15 @@ use Rattle.std.specs.Prelude.{codes}
 use Rattle.std.specs.Fmt.{digits}
 use Rattle.std.proofs.lemmas.List.Elements.{All-from_recursion}
 use Rattle.pg_base.specs.Graph.{Graph, Arc, arcs_of}
-use Rattle.pg_base.specs.Walk.{LeastArcs}
 use Rattle.pg_base.specs.Examples.{arc}
-use Rattle.pg_base.proofs.WalkLemmas.{apart_by_limit, least_arcs_by, least_is_one}
-use Rattle.pg_base.specs.Distances.{AreLeastArcs}
-use Rattle.pg_top.specs.Text.{IsSearchText}
+use Rattle.pg_base.specs.Walk.{IsWalk, Joins, weight_of, LeastArcs, LeastWeight}
+use Rattle.pg_base.specs.Examples.{graph, path_edges}
+use Rattle.pg_base.proofs.WalkLemmas.{apart_by_limit, least_arcs_by, least_is_one, least_weight_by, lowest_by, lowest_is_one}
+use Rattle.pg_words.specs.declared.plans.Algorithm.{Algorithm}
+use Rattle.pg_words.specs.declared.plans.Algorithm.TheVariants.{Bfs, Sssp, Components, Forest, Colour, Grid}
+use Rattle.pg_top.specs.Text.{AreAnswersOf, IsAnswerText, IsRootOf}
 use Rattle.pg_print.specs.Columns.{column_text}
-use Rattle.pg_top.specs.TextLaws.{SearchTextIsOne}
+use Rattle.pg_top.specs.TextLaws.{TextIsOne}
 use Rattle.pg_metis.specs.Examples.{path}
 use Rattle.pg_top.specs.Examples.{path_and_one}
 
@@ -23,16 +25,33 @@ same_lists (x ∷ xs) (y ∷ ys) count each =
     let rest : xs ≡ ys = same_lists xs ys (omega arith) (λ i below. each (suc i) (omega arith)) in
     cc
 
-same_distances : (g : Graph) (s : ℕ) (xs ys : List (Option ℕ)) → AreLeastArcs g s xs → AreLeastArcs g s ys → xs ≡ ys
-same_distances g s xs ys p q =
+same_roots : (g : Graph) (v : ℕ) (x y : Option ℕ) → IsRootOf g v x → IsRootOf g v y → x ≡ y
+same_roots g v None y p q = absurd p
+same_roots g v (Some a) None p q = absurd q
+same_roots g v (Some a) (Some b) p q = ap Some (lowest_is_one (arcs_of g.edges) v a b p q)
+
+same_answers : (algorithm : Algorithm) (source : ℕ) (g : Graph) (xs ys : List (Option ℕ)) → AreAnswersOf algorithm source g xs → AreAnswersOf algorithm source g ys → xs ≡ ys
+same_answers Bfs source g xs ys p q =
     let a = p.count in
     let b = q.count in
     same_lists xs ys (omega arith)
-    (λ i below. least_is_one length (arcs_of g.edges) s (i + 1) (get_or xs i None) (get_or ys i None) (p.each i (omega arith)) (q.each i (omega arith)))
+    (λ i below. least_is_one length (arcs_of g.edges) source (i + 1) (get_or xs i None) (get_or ys i None) (p.each i (omega arith)) (q.each i (omega arith)))
+same_answers Sssp source g xs ys p q =
+    let a = p.count in
+    let b = q.count in
+    same_lists xs ys (omega arith)
+    (λ i below. least_is_one weight_of (arcs_of g.edges) source (i + 1) (get_or xs i None) (get_or ys i None) (p.each i (omega arith)) (q.each i (omega arith)))
+same_answers Components source g xs ys p q =
+    let a = p.count in
+    let b = q.count in
+    same_lists xs ys (omega arith) (λ i below. same_roots g (i + 1) (get_or xs i None) (get_or ys i None) (p.each i (omega arith)) (q.each i (omega arith)))
+same_answers Forest source g xs ys p q = absurd p
+same_answers Colour source g xs ys p q = absurd p
+same_answers Grid source g xs ys p q = absurd p
 
-pub search_text_is_one : SearchTextIsOne
-search_text_is_one g source a b p q =
-    p.spelled ∙ (ap column_text (same_distances g source p.distances q.distances p.least q.least) ∙ sym q.spelled)
+pub text_is_one : TextIsOne
+text_is_one algorithm source g a b p q =
+    p.spelled ∙ (ap column_text (same_answers algorithm source g p.answers q.answers p.right q.right) ∙ sym q.spelled)
 
 -- The arcs of the path, which both graphs have.
 abbrev path_arcs : List Arc
@@ -106,20 +125,85 @@ least_alone (suc (suc zero)) below = from_1_to_3
 least_alone (suc (suc (suc zero))) below = from_1_to_4
 least_alone (suc (suc (suc (suc i)))) below = absurd (omega arith)
 
-pub text_from_1 : IsSearchText path 1 (codes "0\n1\n2\n")
+pub text_from_1 : IsAnswerText Bfs 1 path (codes "0\n1\n2\n")
 unfolding digits
-text_from_1 = record { first = omega arith; last = omega arith; distances = distances_1; least = record { count = refl; each = least_from_1 }; spelled = refl }
+text_from_1 = record { inside = record { first = λ _. omega arith; last = λ _. omega arith }; answers = distances_1; right = record { count = refl; each = least_from_1 }; spelled = refl }
 
-pub text_from_2 : IsSearchText path 2 (codes "1\n0\n1\n")
+pub text_from_2 : IsAnswerText Bfs 2 path (codes "1\n0\n1\n")
 unfolding digits
-text_from_2 = record { first = omega arith; last = omega arith; distances = distances_2; least = record { count = refl; each = least_from_2 }; spelled = refl }
+text_from_2 = record { inside = record { first = λ _. omega arith; last = λ _. omega arith }; answers = distances_2; right = record { count = refl; each = least_from_2 }; spelled = refl }
 
-pub text_alone : IsSearchText path_and_one 1 (codes "0\n1\n2\n-\n")
+pub text_alone : IsAnswerText Bfs 1 path_and_one (codes "0\n1\n2\n-\n")
 unfolding digits
-text_alone = record { first = omega arith; last = omega arith; distances = distances_alone; least = record { count = refl; each = least_alone }; spelled = refl }
+text_alone = record { inside = record { first = λ _. omega arith; last = λ _. omega arith }; answers = distances_alone; right = record { count = refl; each = least_alone }; spelled = refl }
 
-pub other_text : IsSearchText path 1 (codes "0\n1\n1\n") → ⊥
+pub other_text : IsAnswerText Bfs 1 path (codes "0\n1\n1\n") → ⊥
 other_text p =
-    let same : codes "0\n1\n2\n" ≡ codes "0\n1\n1\n" = search_text_is_one path 1 _ _ text_from_1 p in
+    let same : codes "0\n1\n2\n" ≡ codes "0\n1\n1\n" = text_is_one Bfs 1 path _ _ text_from_1 p in
     let fifth : ◌≡◌ {A = ℕ} 50 49 = ap (λ (text : List ℕ). get_or text 4 0) same in
     omega arith
+
+-- The least weights from vertex 1 of a path with weights, by vertex.
+abbrev by_weight : ℕ → ℕ
+by_weight v = get_or (0 ∷ 0 ∷ 5 ∷ 7 ∷ []) v 0
+
+rises_by_weight : All (λ a. by_weight a.to ≤ by_weight a.from + a.weight) (arcs_of path_edges)
+rises_by_weight =
+    All-from_recursion (λ a. by_weight a.to ≤ by_weight a.from + a.weight) (arcs_of path_edges)
+    (omega arith, (omega arith, (omega arith, (omega arith, tt))))
+
+path_to_2 : IsWalk (arcs_of path_edges) 1 (arc 1 2 5 ∷ []) 2
+path_to_2 = ((0, omega arith, refl), refl, refl)
+
+path_to_3 : IsWalk (arcs_of path_edges) 1 (arc 1 2 5 ∷ arc 2 3 2 ∷ []) 3
+path_to_3 = ((0, omega arith, refl), refl, ((2, omega arith, refl), refl, refl))
+
+path_apart : Joins (arcs_of path_edges) 1 4 → ⊥
+path_apart =
+    apart_by_limit 3 (arcs_of path_edges) 1 4
+    (All-from_recursion (λ a. a.from ≤ 3 → a.to ≤ 3) (arcs_of path_edges) ((λ h. omega arith), ((λ h. omega arith), ((λ h. omega arith), ((λ h. omega arith), tt)))))
+    (omega arith) (omega arith)
+
+abbrev weights : List (Option ℕ)
+weights = Some 0 ∷ Some 5 ∷ Some 7 ∷ None ∷ []
+
+least_weights : (i : ℕ) → i < 4 → LeastWeight (arcs_of path_edges) 1 (i + 1) (get_or weights i None)
+least_weights zero below = least_weight_by by_weight (arcs_of path_edges) 1 1 0 [] rises_by_weight refl refl (omega arith)
+least_weights (suc zero) below = least_weight_by by_weight (arcs_of path_edges) 1 2 5 (arc 1 2 5 ∷ []) rises_by_weight path_to_2 refl (omega arith)
+least_weights (suc (suc zero)) below = least_weight_by by_weight (arcs_of path_edges) 1 3 7 (arc 1 2 5 ∷ arc 2 3 2 ∷ []) rises_by_weight path_to_3 refl (omega arith)
+least_weights (suc (suc (suc zero))) below = path_apart
+least_weights (suc (suc (suc (suc i)))) below = absurd (omega arith)
+
+pub text_of_weights : IsAnswerText Sssp 1 (graph 4 path_edges) (codes "0\n5\n7\n-\n")
+unfolding digits
+text_of_weights = record { inside = record { first = λ _. omega arith; last = λ _. omega arith }; answers = weights; right = record { count = refl; each = least_weights }; spelled = refl }
+
+pub no_text_of_arcs : IsAnswerText Sssp 1 (graph 4 path_edges) (codes "0\n1\n2\n-\n") → ⊥
+no_text_of_arcs p =
+    let same : codes "0\n5\n7\n-\n" ≡ codes "0\n1\n2\n-\n" = text_is_one Sssp 1 (graph 4 path_edges) _ _ text_of_weights p in
+    let third : ◌≡◌ {A = ℕ} 53 49 = ap (λ (text : List ℕ). get_or text 2 0) same in
+    omega arith
+
+below_1 : All (λ a. a.from < 1 → a.to < 1) (arcs_of path_edges)
+below_1 =
+    All-from_recursion (λ a. a.from < 1 → a.to < 1) (arcs_of path_edges)
+    ((λ h. omega arith), ((λ h. omega arith), ((λ h. omega arith), ((λ h. omega arith), tt))))
+
+below_4 : All (λ a. a.from < 4 → a.to < 4) (arcs_of path_edges)
+below_4 =
+    All-from_recursion (λ a. a.from < 4 → a.to < 4) (arcs_of path_edges)
+    ((λ h. omega arith), ((λ h. omega arith), ((λ h. omega arith), ((λ h. omega arith), tt))))
+
+abbrev roots : List (Option ℕ)
+roots = Some 1 ∷ Some 1 ∷ Some 1 ∷ Some 4 ∷ []
+
+lowest_roots : (i : ℕ) → i < 4 → IsRootOf (graph 4 path_edges) (i + 1) (get_or roots i None)
+lowest_roots zero below = lowest_by (arcs_of path_edges) 1 1 below_1 (omega arith) ([], refl)
+lowest_roots (suc zero) below = lowest_by (arcs_of path_edges) 1 2 below_1 (omega arith) (arc 1 2 5 ∷ [], path_to_2)
+lowest_roots (suc (suc zero)) below = lowest_by (arcs_of path_edges) 1 3 below_1 (omega arith) (arc 1 2 5 ∷ arc 2 3 2 ∷ [], path_to_3)
+lowest_roots (suc (suc (suc zero))) below = lowest_by (arcs_of path_edges) 4 4 below_4 (omega arith) ([], refl)
+lowest_roots (suc (suc (suc (suc i)))) below = absurd (omega arith)
+
+pub text_of_roots : IsAnswerText Components 0 (graph 4 path_edges) (codes "1\n1\n1\n4\n")
+unfolding digits
+text_of_roots = record { inside = record { first = λ e. absurd (cc e); last = λ e. absurd (cc e) }; answers = roots; right = record { count = refl; each = lowest_roots }; spelled = refl }

@@ -1,4 +1,6 @@
 pub mod Examples
+pub mod Files
+pub mod Distributions
 pub mod Run
 pub mod Text
 pub mod TextLaws

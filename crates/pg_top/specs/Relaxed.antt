@@ -1,7 +1,10 @@
 -- A finished run of relaxations over a divided graph: the programs, the lanes, and how they belong together.
 -- Source: Gregor and Lumsdaine, Lifting sequential graph algorithms for distributed-memory parallel computation (OOPSLA 2005).
-use Rattle.std.specs.Prelude.{◌≡◌, ℕ, ◌+◌, ◌<◌, ◌≤◌, true, List, length, map, slice_get, slice_index_or, Option, Some, None}
+use Rattle.std.specs.Prelude.{◌≡◌, ℕ, ◌+◌, ◌<◌, ◌≤◌, true, List, length, map, slice_get, slice_index_or, Option, Some, None, option_and_then}
+use Rattle.pg_label.specs.declared.values.Value.{Value}
 use Rattle.pg_best.specs.Labels.{amount_in}
+use Rattle.pg_top.specs.declared.columns.Field.{Field}
+use Rattle.pg_top.specs.declared.columns.Field.TheVariants.{Amount, Class}
 use Rattle.pg_relax.specs.Tables.{value_at}
 use Rattle.pg_base.specs.Graph.{Graph}
 use Rattle.pg_lane.specs.declared.settling.Settled.{Settled}
@@ -55,11 +58,24 @@ module _ {L A : Type 0} {l : LabelGhosts L} {a : AgendaGhosts A} where
 abbrev pub AreInOrder : List Portion → Type 0
 AreInOrder parts = Each (λ rank p. (p.rank ≡ rank) × (p.ranks ≡ length parts)) parts
 
+abbrev pub class_in : Option Value → Option ℕ
+class_in None = None
+class_in (Some x) = Some x.class
+
+-- One number of a value, if there is one.
+abbrev pub field_in : Field → Option Value → Option ℕ
+field_in Amount value = amount_in value
+field_in Class value = class_in value
+
 module _ {L A : Type 0} {l : LabelGhosts L} {a : AgendaGhosts A} where
-  -- Place v - 1 holds the amount of the value that the program of the vertex's owner has at the vertex's place.
-  pub record AreAnswers (s : Sharing) (programs : List (Relax L A l a)) (answers : List (Option ℕ)) : Type 0 where
+  -- The value that the program of the vertex's owner has at the vertex's place.
+  abbrev pub value_of : Sharing → List (Relax L A l a) → ℕ → Option Value
+  value_of s programs v = option_and_then (λ p. value_at (state_of p).values (s.local v)) (slice_get programs (s.owner v))
+
+  -- Place v - 1 holds this number of the value of v.
+  pub record AreAnswers (field : Field) (s : Sharing) (programs : List (Relax L A l a)) (answers : List (Option ℕ)) : Type 0 where
     pub count : length answers ≡ s.n
-    pub each : (v : ℕ) (p : Relax L A l a) → v < s.n → slice_get programs (s.owner (v + 1)) ≡ Some p → slice_index_or answers v None ≡ amount_in (value_at (state_of p).values (s.local (v + 1)))
+    pub each : (v : ℕ) → v < s.n → slice_index_or answers v None ≡ field_in field (value_of s programs (v + 1))
 
   -- The program of each vertex's owner has the vertex's place.
   abbrev pub HavePlaces : Sharing → List (Relax L A l a) → Type 0

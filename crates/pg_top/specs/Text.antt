@@ -1,19 +1,54 @@
 -- What a run prints.
-use Rattle.std.specs.Prelude.{◌≡◌, ℕ, ◌≤◌, Option, List}
-use Rattle.pg_base.specs.Graph.{Graph}
-use Rattle.pg_print.specs.Columns.{column_text}
+-- Source: Cormen, Leiserson, Rivest and Stein, Introduction to Algorithms, chapters 21.1 (components), 22.2 and 24 (least distances).
+use Rattle.std.specs.Prelude.{◌≡◌, ℕ, ◌+◌, ◌<◌, ◌≤◌, Bool, true, false, Option, Some, None, List, length, slice_index_or}
+use Rattle.pg_base.specs.Graph.{Graph, arcs_of}
+use Rattle.pg_base.specs.Walk.{LeastWeight, IsLowest}
 use Rattle.pg_base.specs.Distances.{AreLeastArcs}
+use Rattle.pg_print.specs.Columns.{column_text}
 use Rattle.pg_words.specs.Plan.{Meaning}
-use Rattle.pg_words.specs.declared.plans.Algorithm.TheVariants.{Bfs}
+use Rattle.pg_words.specs.declared.plans.Algorithm.{Algorithm}
+use Rattle.pg_words.specs.declared.plans.Algorithm.TheVariants.{Bfs, Sssp, Components}
 
--- A line for each vertex, with the least number of arcs from the source, which is a vertex.
-pub record IsSearchText (g : Graph) (source : ℕ) (text : List ℕ) : Type 0 where
-  pub first : 1 ≤ source
-  pub last : source ≤ g.n
-  pub distances : List (Option ℕ)
-  pub least : AreLeastArcs g source distances
-  pub spelled : text ≡ column_text distances
+-- Place v - 1 holds the least weight of a walk from s to v.
+pub record AreLeastWeights (g : Graph) (s : ℕ) (distances : List (Option ℕ)) : Type 0 where
+  pub count : length distances ≡ g.n
+  pub each : (v : ℕ) → v < g.n → LeastWeight (arcs_of g.edges) s (v + 1) (slice_index_or distances v None)
 
--- The text is what the plan's algorithm says of the graph. No words mean another algorithm yet.
+-- This number is there, and is the least vertex from which a walk leads to v.
+abbrev pub IsRootOf : Graph → ℕ → Option ℕ → Type 0
+IsRootOf g v None = ⊥
+IsRootOf g v (Some u) = IsLowest (arcs_of g.edges) v u
+
+-- Place v - 1 holds the least vertex of the component of v.
+pub record AreLowest (g : Graph) (roots : List (Option ℕ)) : Type 0 where
+  pub count : length roots ≡ g.n
+  pub each : (v : ℕ) → v < g.n → IsRootOf g (v + 1) (slice_index_or roots v None)
+
+-- What the algorithm answers for each vertex. No words mean another algorithm yet.
+abbrev pub AreAnswersOf : Algorithm → ℕ → Graph → List (Option ℕ) → Type 0
+AreAnswersOf Bfs source g answers = AreLeastArcs g source answers
+AreAnswersOf Sssp source g answers = AreLeastWeights g source answers
+AreAnswersOf Components source g answers = AreLowest g answers
+AreAnswersOf _ source g answers = ⊥
+
+-- Whether the algorithm's answers count from a source.
+abbrev pub has_source : Algorithm → Bool
+has_source Bfs = true
+has_source Sssp = true
+has_source _ = false
+
+-- Where the algorithm has a source, it is a vertex of the graph.
+pub record IsInside (a : Algorithm) (source n : ℕ) : Type 0 where
+  pub first : has_source a ≡ true → 1 ≤ source
+  pub last : has_source a ≡ true → source ≤ n
+
+-- A line for each vertex, with what the algorithm answers for it.
+pub record IsAnswerText (a : Algorithm) (source : ℕ) (g : Graph) (text : List ℕ) : Type 0 where
+  pub inside : IsInside a source g.n
+  pub answers : List (Option ℕ)
+  pub right : AreAnswersOf a source g answers
+  pub spelled : text ≡ column_text answers
+
+-- The text is what the plan's algorithm says of the graph.
 abbrev pub IsTextOf : Meaning → Graph → List ℕ → Type 0
-IsTextOf plan g text = plan.algorithm ≡ Bfs × IsSearchText g plan.source text
+IsTextOf plan g text = IsAnswerText plan.algorithm plan.source g text

@@ -1,8 +1,9 @@
 -- What follows from the definition of what a run prints.
 use Rattle.std.specs.Prelude.{◌≡◌, ℕ, List}
 use Rattle.pg_base.specs.Graph.{Graph}
-use Rattle.pg_top.specs.Text.{IsSearchText}
+use Rattle.pg_words.specs.declared.plans.Algorithm.{Algorithm}
+use Rattle.pg_top.specs.Text.{IsAnswerText}
 
--- A graph and a source have at most one text.
-abbrev pub SearchTextIsOne : Type 0
-SearchTextIsOne = (g : Graph) (source : ℕ) (a b : List ℕ) → IsSearchText g source a → IsSearchText g source b → a ≡ b
+-- An algorithm, a graph and a source have at most one text. So the text doesn't depend on ranks, threads, owners, buckets or lanes.
+abbrev pub TextIsOne : Type 0
+TextIsOne = (algorithm : Algorithm) (source : ℕ) (g : Graph) (a b : List ℕ) → IsAnswerText algorithm source g a → IsAnswerText algorithm source g b → a ≡ b

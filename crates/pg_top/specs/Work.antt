@@ -1,57 +1,63 @@
 -- What a run leaves beside its texts: the final programs of its ranks and the lanes between them.
-use Rattle.std.specs.Prelude.{◌≡◌, ℕ, ◌≤◌, ◌/◌, ◌%◌, ◌+◌, ◌<◌, Option, List}
-use Rattle.pg_base.specs.Graph.{Graph}
-use Rattle.pg_base.specs.Distances.{AreLeastArcs}
+use Rattle.std.specs.Prelude.{◌≡◌, ℕ, Option, List}
+use Rattle.pg_base.specs.Graph.{Graph, arcs_of}
 use Rattle.pg_outside.specs.Files.{NamedBytes}
 use Rattle.pg_lane.specs.declared.settling.Settled.{Settled}
 use Rattle.pg_group.specs.declared.messages.Envelope.{Envelope}
 use Rattle.pg_print.specs.Columns.{column_text}
 use Rattle.pg_words.specs.Plan.{Meaning}
-use Rattle.pg_words.specs.declared.plans.Algorithm.TheVariants.{Bfs}
-use Rattle.pg_label.specs.declared.labels.Hops.{Hops}
+use Rattle.pg_words.specs.declared.plans.Algorithm.TheVariants.{Bfs, Sssp, Components}
 use Rattle.pg_label.specs.declared.labels.Label.{Ghosts as LabelGhosts}
 use Rattle.pg_agenda.specs.declared.agendas.Agenda.{Ghosts as AgendaGhosts}
 use Rattle.pg_dist.specs.Sharing.{Sharing, IsSharing}
-use Rattle.pg_dist.specs.Blocks.{count_of, first_of}
 use Rattle.pg_best.specs.declared.offers.Offer.{Offer}
+use Rattle.pg_best.specs.Relaxed.{Relaxed}
 use Rattle.pg_relax.specs.declared.relaxing.Relax.{Relax}
-use Rattle.pg_top.specs.Relaxed.{AreAnswers, IsRelaxation}
-use Rattle.pg_top.specs.Run.{FileHolds, IsFileOf}
-use Rattle.pg_top.specs.Text.{IsTextOf}
+use Rattle.pg_relax.specs.States.{label_of}
+use Rattle.pg_run.specs.Lanes.{sent_on}
+use Rattle.pg_top.specs.declared.columns.Field.{Field}
+use Rattle.pg_top.specs.declared.columns.Field.TheVariants.{Amount, Class}
+use Rattle.pg_top.specs.Distributions.{IsDistribution}
+use Rattle.pg_top.specs.Relaxed.{AreAnswers, IsRelaxation, value_of}
+use Rattle.pg_top.specs.Files.{HasInput}
+use Rattle.pg_top.specs.Text.{AreAnswersOf, IsInside, IsTextOf}
 use Rattle.pg_top.specs.declared.works.Work.{Work}
-use Rattle.pg_top.specs.declared.works.Work.TheVariants.{None, Hops as OfHops}
+use Rattle.pg_top.specs.declared.works.Work.TheVariants.{None, Hops, Weights, Roots}
 
--- The vertices from 1 to n in blocks, the first ranks with one vertex more.
-pub record IsInBlocks (n ranks : ℕ) (s : Sharing) : Type 0 where
-  pub vertices : s.n ≡ n
-  pub group : s.ranks ≡ ranks
-  pub counts : (r : ℕ) → r < ranks → s.count r ≡ count_of (n / ranks) (n % ranks) r
-  pub blocks : (r i : ℕ) → r < ranks → i < count_of (n / ranks) (n % ranks) r → s.global r i ≡ first_of (n / ranks) (n % ranks) r + i
-
-module _ {A : Type 0} {l : LabelGhosts Hops} {a : AgendaGhosts A} where
-  -- The programs of a search from the source, on so many ranks over lanes of this capacity, ended over a whole book; and the text has
-  -- the numbers of arcs that they hold, which are the least.
-  pub record IsSearch (source ranks capacity : ℕ) (g : Graph) (text : List ℕ) (programs : List (Relax Hops A l a)) (lanes : List (Settled (Envelope Offer))) : Type 0 where
+module _ {L A : Type 0} {l : LabelGhosts L} {a : AgendaGhosts A} where
+  -- The programs of a relaxation by this label, ended over a whole book, on so many ranks over lanes of this capacity, among which the graph
+  -- is divided by these owners or in blocks; and the answers are numbers of the values that the programs hold.
+  pub record IsRelaxedBy (label : L) (field : Field) (owners : Option (List ℕ)) (ranks capacity : ℕ) (g : Graph) (answers : List (Option ℕ)) (programs : List (Relax L A l a)) (lanes : List (Settled (Envelope Offer))) : Type 0 where
     pub sharing : Sharing
     pub laws : IsSharing sharing
-    pub blocks : IsInBlocks g.n ranks sharing
-    pub relaxation : IsRelaxation (record { source = source }) sharing g capacity programs lanes
-    pub distances : List (Option ℕ)
-    pub held : AreAnswers sharing programs distances
-    pub least : AreLeastArcs g source distances
-    pub spelled : text ≡ column_text distances
+    pub distribution : IsDistribution owners g.n ranks sharing
+    pub relaxation : IsRelaxation label sharing g capacity programs lanes
+    pub held : AreAnswers field sharing programs answers
 
-  -- The source is a vertex of the graph, and this was found by a search from there.
-  pub record IsFoundFor (source ranks capacity : ℕ) (text : List ℕ) (programs : List (Relax Hops A l a)) (lanes : List (Settled (Envelope Offer))) (g : Graph) : Type 0 where
-    pub first : 1 ≤ source
-    pub last : source ≤ g.n
-    pub search : IsSearch source ranks capacity g text programs lanes
+  -- Likewise, and the lanes carried what relaxes each arc between two ranks.
+  pub record IsCarried (label : L) (field : Field) (owners : Option (List ℕ)) (ranks capacity : ℕ) (g : Graph) (answers : List (Option ℕ)) (programs : List (Relax L A l a)) (lanes : List (Settled (Envelope Offer))) : Type 0 where
+    pub run : IsRelaxedBy label field owners ranks capacity g answers programs lanes
+    pub relaxed : Relaxed (label_of (l.start label) (l.add label)) (arcs_of g.edges) run.sharing.owner run.sharing.local (value_of run.sharing programs) (sent_on ranks lanes)
+
+  -- The text spells the answers of such a relaxation.
+  pub record SpellsAnswers (label : L) (field : Field) (owners : Option (List ℕ)) (ranks capacity : ℕ) (g : Graph) (text : List ℕ) (programs : List (Relax L A l a)) (lanes : List (Settled (Envelope Offer))) : Type 0 where
+    pub answers : List (Option ℕ)
+    pub carried : IsCarried label field owners ranks capacity g answers programs lanes
+    pub spelled : text ≡ column_text answers
 
 -- The programs and lanes of the plan's algorithm, which hold the numbers of this text.
-abbrev pub IsWork : Meaning → Graph → List ℕ → Work → Type 0
-IsWork plan g text None = ⊥
-IsWork plan g text (OfHops f) = IsSearch plan.source plan.ranks plan.capacity g text f.programs.items f.lanes.items
+abbrev pub IsWork : Meaning → Graph → Option (List ℕ) → List ℕ → Work → Type 0
+IsWork plan g owners text None = ⊥
+IsWork plan g owners text (Hops f) = plan.algorithm ≡ Bfs × SpellsAnswers (record { source = plan.source }) Amount owners plan.ranks plan.capacity g text f.programs.items f.lanes.items
+IsWork plan g owners text (Weights f) = plan.algorithm ≡ Sssp × SpellsAnswers (record { source = plan.source }) Amount owners plan.ranks plan.capacity g text f.programs.items f.lanes.items
+IsWork plan g owners text (Roots f) = plan.algorithm ≡ Components × SpellsAnswers (record {}) Class owners plan.ranks plan.capacity g text f.programs.items f.lanes.items
 
 -- P holds of a text that the plan means for the graph of its file, and the work holds its numbers.
 abbrev pub HasWork : Meaning → Option (List NamedBytes) → Work → (List ℕ → Type 0) → Type 0
-HasWork plan files work P = FileHolds plan.file files (IsFileOf (λ g. (text : List ℕ) × IsTextOf plan g text × IsWork plan g text work × P text))
+HasWork plan files work P = HasInput plan files (λ g owners. (text : List ℕ) × IsTextOf plan g text × IsWork plan g owners text work × P text)
+
+-- What was found for the plan's graph with these owners: the source is inside, and the work holds the answers, which are right.
+pub record IsSolved (plan : Meaning) (g : Graph) (owners : Option (List ℕ)) (answers : List (Option ℕ)) (work : Work) : Type 0 where
+  pub inside : IsInside plan.algorithm plan.source g.n
+  pub right : AreAnswersOf plan.algorithm plan.source g answers
+  pub carried : IsWork plan g owners (column_text answers) work

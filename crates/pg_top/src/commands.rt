@@ -1,87 +1,29 @@
-ghost use Rattle.std.specs.Prelude.{◌≡◌, ◌<◌, ◌≤◌, ◌⊎◌, None, Some, List, ℕ, IfOk, IfErr, OnOk, OnErr, string_bytes};
+ghost use Rattle.std.specs.Prelude.{◌≡◌, ◌<◌, ◌≤◌, ◌⊎◌, None, Some, List, ℕ, IfOk, IfErr, OnOk, OnErr};
 ghost use Rattle.std.specs.Io.KnownBytes.{Appends};
 ghost use Rattle.pg_outside.specs.Faults.{Rose};
-ghost use Rattle.pg_outside.specs.Files.{IsMissing};
 ghost use Rattle.pg_outside.specs.Written.{AppendsFront};
 ghost use Rattle.pg_metis.specs.Fault.{Fault as FirstFault, fault_of};
 ghost use Rattle.pg_metis.specs.File.{FileOf};
+ghost use Rattle.pg_metis.specs.Parts.{FirstPartsFault, parts_fault_of};
 ghost use Rattle.pg_print.specs.Columns.{column_text};
 ghost use Rattle.pg_print.specs.FaultLines.{fault_line, status_of};
-ghost use Rattle.pg_top.specs.Work.{HasWork, IsFoundFor};
 ghost use Rattle.pg_base.specs.Graph.{Graph};
+ghost use Rattle.pg_words.specs.Built.{IsBuilt};
 ghost use Rattle.pg_words.specs.Plan.{Meaning, meaning_of, plan_of, texts};
-ghost use Rattle.pg_top.specs.Run.{IsOutside, IsOrNoMemory, IsReadToEnd, LoadFails, FileHolds, IsFileOf, HasPlan, HasText, PlanFails, Reports, RunFails, PrepareFails, SearchFails, Tells, from_plan};
+ghost use Rattle.pg_top.specs.Files.{FileHolds, HasInput, IsFileOf, IsReadToEnd, MissesFile, PartsHold};
+ghost use Rattle.pg_top.specs.Run.{HasPlan, HasText, InputFails, IsOrNoMemory, IsOutside, PlanFails, PrepareFails, Reports, RunFails, Tells, TellsInput, TellsPartsFault, from_plan};
+ghost use Rattle.pg_top.specs.Text.{IsInside};
+ghost use Rattle.pg_top.specs.Work.{HasWork, IsSolved};
 
-use crate::searching::{Found, search_graph};
+use crate::inputs::read_input;
+use crate::solving::{Solved, crew_of, solve};
 use crate::{Answer, Plan, PlanFault, Work, plan};
-use pg_base::{EdgeList, Gate, Status};
-use pg_metis::read_graph;
+use pg_base::{Gate, Status};
 use pg_outside::{Inputs, Sink};
 use pg_print::{Fault, print_column, print_fault};
 use std::alloc::Global;
 use std::sync::Wait;
-
-/// The graph of the file of this name.
-fn load<I: Inputs>(alloc: Global, inputs: &mut I, name: &str) -> Result<EdgeList, Fault>
-    ensures loaded { IfOk result (λ g. FileHolds name.now (I.files inputs.old) (λ text. FileOf text g)) }
-    ensures end { OnOk result (IsReadToEnd (I.files inputs.old) (I.left inputs.new)) }
-    ensures fails { IfErr result (LoadFails name.now (I.files inputs.old) (I.faults inputs.old) (I.faults inputs.new)) }
-    ensures later { I.faults inputs.old ≤ I.faults inputs.new }
-    ensures files { I.files inputs.new ≡ I.files inputs.old }
-{
-    if inputs.begin(name).is_err() {
-        return Err(Fault::Read);
-    }
-    Ok(read_graph(alloc, inputs)?)
-}
-
-/// The fault of a source that is none of the vertices from 1 to `n`.
-fn source_fault(n: u32, source: u32) -> Option<Fault>
-    ensures outside { (source ≡ 0) ⊎ (n < source) → result ≡ Some (Fault.Source source) }
-    ensures inside { 1 ≤ source → source ≤ n → result ≡ None }
-{
-    if source == 0 || source > n {
-        Some(Fault::Source { source })
-    } else {
-        None
-    }
-}
-
-/// Searches the graph of the plan's file from the plan's source.
-fn find<W: Wait, I: Inputs, G: Gate>(
-    token: &W,
-    alloc: Global,
-    inputs: &mut I,
-    plan: &Plan,
-    gate: &G,
-) -> Result<Found, Fault>
-    requires ranks_at_least { 1 ≤ plan.now.ranks }
-    requires ranks_at_most { plan.now.ranks ≤ 32 }
-    requires capacity_at_least { 1 ≤ plan.now.capacity }
-    requires capacity_at_most { plan.now.capacity ≤ 1024 }
-    ensures found { IfOk result (λ f. FileHolds (string_bytes plan.now.file) (I.files inputs.old)
-        (IsFileOf (IsFoundFor plan.now.source plan.now.ranks plan.now.capacity (column_text f.distances.hops.items) f.finished.programs.items f.finished.lanes.items))) }
-    ensures end { OnOk result (IsReadToEnd (I.files inputs.old) (I.left inputs.new)) }
-    ensures fails { IfErr result
-        (SearchFails (meaning_of plan.now) (I.files inputs.old) (I.faults inputs.old) (I.faults inputs.new)) }
-    ensures later { I.faults inputs.old ≤ I.faults inputs.new }
-    ensures files { I.files inputs.new ≡ I.files inputs.old }
-{
-    let graph = load(alloc, inputs, plan.file.as_str())?;
-    if let Some(fault) = source_fault(graph.n(), plan.source) {
-        return Err(fault);
-    }
-    search_graph(
-        token,
-        alloc,
-        graph,
-        plan.source,
-        plan.ranks,
-        plan.capacity,
-        gate,
-    )
-    .map_err(|_| Fault::Memory)
-}
+use std::thread::Threads;
 
 /// What a run's fault is where its words have no plan.
 fn words_fault(fault: PlanFault) -> Fault
@@ -104,16 +46,37 @@ fn plan_or_fault(alloc: Global, words: &[String]) -> Result<Plan, Fault>
     }
 }
 
-/// Plans, reads and searches.
-fn prepare<W: Wait, I: Inputs, G: Gate>(
+/// Reads what the plan names, and runs its algorithm.
+fn find<W: Threads + Wait + Sync, I: Inputs, G: Gate>(
+    token: &W,
+    alloc: Global,
+    inputs: &mut I,
+    plan: &Plan,
+    gate: &G,
+) -> Result<Solved, Fault>
+    requires { IsBuilt (meaning_of plan.now) }
+    ensures found { IfOk result (λ s. HasInput (meaning_of plan.now) (I.files inputs.old)
+        (λ g owners. IsSolved (meaning_of plan.now) g owners s.answers.of_vertices.items s.work)) }
+    ensures end { OnOk result (IsReadToEnd (I.files inputs.old) (I.left inputs.new)) }
+    ensures fails { IfErr result (InputFails (meaning_of plan.now) (I.files inputs.old) (I.faults inputs.old) (I.faults inputs.new)) }
+    ensures later { I.faults inputs.old ≤ I.faults inputs.new }
+    ensures files { I.files inputs.new ≡ I.files inputs.old }
+{
+    let crew = crew_of(plan);
+    let input = read_input(alloc, inputs, plan, crew.ranks)?;
+    solve(token, alloc, input, plan, &crew, gate).map_err(|_| Fault::Memory)
+}
+
+/// Plans, reads and runs the plan's algorithm.
+fn prepare<W: Threads + Wait + Sync, I: Inputs, G: Gate>(
     token: &W,
     alloc: Global,
     words: &[String],
     inputs: &mut I,
     gate: &G,
-) -> Result<Found, Fault>
-    ensures found { IfOk result (λ f. HasPlan (texts words.now) (λ plan. FileHolds plan.file (I.files inputs.old)
-        (IsFileOf (IsFoundFor plan.source plan.ranks plan.capacity (column_text f.distances.hops.items) f.finished.programs.items f.finished.lanes.items)))) }
+) -> Result<Solved, Fault>
+    ensures found { IfOk result (λ s. HasPlan (texts words.now) (λ plan. HasInput plan (I.files inputs.old)
+        (λ g owners. IsSolved plan g owners s.answers.of_vertices.items s.work))) }
     ensures end { OnOk result (IsReadToEnd (I.files inputs.old) (I.left inputs.new)) }
     ensures fails { IfErr result (PrepareFails (texts words.now) (I.files inputs.old) (I.faults inputs.old) (I.faults inputs.new)) }
     ensures unread { plan_of (texts words.now) ≡ None → inputs.new ≡ inputs.old }
@@ -125,27 +88,24 @@ fn prepare<W: Wait, I: Inputs, G: Gate>(
 }
 
 /// Writes what was found to `out`.
-fn write<S: Sink>(out: &mut S, found: Found) -> (Result<(), Fault>, Work)
-    ensures printed { OnOk result.0 (Appends (S.text out.old) (S.text out.new) (column_text found.distances.hops.items)) }
-    ensures front { OnErr result.0 (AppendsFront (S.text out.old) (S.text out.new) (column_text found.distances.hops.items)) }
+fn write<S: Sink>(out: &mut S, solved: Solved) -> (Result<(), Fault>, Work)
+    ensures printed { OnOk result.0 (Appends (S.text out.old) (S.text out.new) (column_text solved.answers.of_vertices.items)) }
+    ensures front { OnErr result.0 (AppendsFront (S.text out.old) (S.text out.new) (column_text solved.answers.of_vertices.items)) }
     ensures cause { OnErr result.0 (Rose (S.faults out.old) (S.faults out.new)) }
     ensures fault { IfErr result.0 (λ fault. fault ≡ Fault.Write) }
-    ensures work { result.1 ≡ Work.Hops found.finished }
+    ensures work { result.1 ≡ solved.work }
     ensures later { S.faults out.old ≤ S.faults out.new }
 {
-    let Found {
-        distances,
-        finished,
-    } = found;
-    let written = match print_column(out, &distances) {
+    let Solved { answers, work } = solved;
+    let written = match print_column(out, &answers) {
         Ok(()) => Ok(()),
         Err(_) => Err(Fault::Write),
     };
-    (written, Work::Hops(finished))
+    (written, work)
 }
 
-/// Plans, reads, searches and writes the answer to `out`.
-fn run<W: Wait, I: Inputs, S: Sink, G: Gate>(
+/// Plans, reads, runs the plan's algorithm and writes its answer to `out`.
+fn run<W: Threads + Wait + Sync, I: Inputs, S: Sink, G: Gate>(
     token: &W,
     alloc: Global,
     words: &[String],
@@ -176,23 +136,29 @@ fn run<W: Wait, I: Inputs, S: Sink, G: Gate>(
     ensures out_later { S.faults out.old ≤ S.faults out.new }
 {
     match prepare(token, alloc, words, inputs, gate) {
-        Ok(found) => write(out, found),
+        Ok(solved) => write(out, solved),
         Err(fault) => (Err(fault), Work::None),
     }
 }
 
 /// Runs the program: the words after its name, a source of files, standard output and standard error.
 ///
-/// With status `Ok`, `out` grew by exactly the text of the words' plan for the graph of which the plan's
-/// file is one: for each vertex from 1 to n a line with the least number of arcs of a walk from
-/// the source, or `-` where no walk leads there. With every other status one line that tells the fault was
-/// written to `errs`, whose own faults change nothing.
+/// With status `Ok`, `out` grew by exactly the text of the words' plan for the graph of which the plan's file is
+/// one, a line for each vertex from 1 to n: for `bfs` the least number of arcs of a walk from the source, for
+/// `sssp` the least weight of one, `-` where no walk leads there, and for `components` the least vertex that a
+/// walk joins to it. The text is the same for every number of ranks and threads, every capacity of lanes and every
+/// partition file. With every other status one line that tells the fault was written to `errs`, whose own faults change
+/// nothing.
 ///
-/// The first fault that is met is answered, in this order: the words (`BadWords`), beginning and reading
-/// the file (`ReadFault`, `BadGraph`), the source (`BadSource`), the writing (`WriteFault`, after a front of
-/// the text). Want of memory (`NoMemory`) may come before the first write to `out`. Nothing is written to
-/// `out` with any status but `Ok` and `WriteFault`. Where the words have no plan no name is begun and nothing is read.
-pub fn command<W: Wait, I: Inputs, S: Sink, E: Sink, G: Gate>(
+/// The first fault that is met is answered, in this order: the words (`BadWords`), beginning and reading the
+/// graph file (`ReadFault`, `BadGraph`), beginning and reading the partition file (`ReadFault`, `BadParts`), the source
+/// (`BadSource`), the writing (`WriteFault`, after a front of the text). Want of memory (`NoMemory`) may come
+/// before the first write to `out`. Nothing is written to `out` with any status but `Ok` and `WriteFault`. Where the
+/// words have no plan no name is begun and nothing is read.
+///
+/// With `Ok` and `WriteFault` the final programs and the settled lanes of this very run are handed back, which hold the
+/// numbers of the text.
+pub fn command<W: Threads + Wait + Sync, I: Inputs, S: Sink, E: Sink, G: Gate>(
     token: &W,
     alloc: Global,
     words: &[String],
@@ -216,14 +182,16 @@ pub fn command<W: Wait, I: Inputs, S: Sink, E: Sink, G: Gate>(
     ensures bad_words { result.status ≡ Status.BadWords → plan_of (texts words.now) ≡ None }
     ensures bad_graph { result.status ≡ Status.BadGraph → HasPlan (texts words.now)
         (λ plan. FileHolds plan.file (I.files inputs.old) (λ text. (fault : FirstFault) × (fault_of text ≡ Some fault))) }
+    ensures bad_parts { result.status ≡ Status.BadParts → HasPlan (texts words.now)
+        (λ plan. FileHolds plan.file (I.files inputs.old) (IsFileOf (λ g. PartsHold plan.parts (I.files inputs.old)
+        (λ text. (fault : FirstPartsFault) × (parts_fault_of g.n plan.ranks text ≡ Some fault))))) }
     ensures bad_source { result.status ≡ Status.BadSource → HasPlan (texts words.now)
-        (λ plan. FileHolds plan.file (I.files inputs.old) (IsFileOf (λ g. IsOutside g plan.source))) }
+        (λ plan. HasInput plan (I.files inputs.old) (λ g owners. IsOutside plan g.n)) }
     ensures read_fault { result.status ≡ Status.ReadFault → HasPlan (texts words.now)
-        (λ plan. Rose (I.faults inputs.old) (I.faults inputs.new) ⊎ IsMissing plan.file (I.files inputs.old)) }
+        (λ plan. Rose (I.faults inputs.old) (I.faults inputs.new) ⊎ MissesFile plan (I.files inputs.old)) }
     ensures write_fault { result.status ≡ Status.WriteFault → HasPlan (texts words.now)
         (λ plan. Rose (S.faults out.old) (S.faults out.new) ×
         HasText plan (I.files inputs.old) (AppendsFront (S.text out.old) (S.text out.new))) }
-    ensures no_parts { result.status ≡ Status.BadParts → ⊥ }
 
     // And there, unless memory was wanting.
     ensures no_plan { plan_of (texts words.now) ≡ None → IsOrNoMemory Status.BadWords result.status }
@@ -231,13 +199,16 @@ pub fn command<W: Wait, I: Inputs, S: Sink, E: Sink, G: Gate>(
         Tells (texts words.now) (I.files inputs.old) plan text → fault_of text ≡ Some fault →
         (Rose (I.faults inputs.old) (I.faults inputs.new) → ⊥) →
         IsOrNoMemory Status.BadGraph result.status }
-    ensures outside { (plan : Meaning) (text : List ℕ) (g : Graph) →
-        Tells (texts words.now) (I.files inputs.old) plan text → FileOf text g → IsOutside g plan.source →
+    ensures malformed_parts { (plan : Meaning) (g : Graph) (fault : FirstPartsFault) →
+        TellsPartsFault (texts words.now) (I.files inputs.old) plan g fault →
+        (Rose (I.faults inputs.old) (I.faults inputs.new) → ⊥) →
+        IsOrNoMemory Status.BadParts result.status }
+    ensures outside { (plan : Meaning) (g : Graph) →
+        TellsInput (texts words.now) (I.files inputs.old) plan g → IsOutside plan g.n →
         (Rose (I.faults inputs.old) (I.faults inputs.new) → ⊥) →
         IsOrNoMemory Status.BadSource result.status }
-    ensures complete { (plan : Meaning) (text : List ℕ) (g : Graph) →
-        Tells (texts words.now) (I.files inputs.old) plan text → FileOf text g →
-        1 ≤ plan.source → plan.source ≤ g.n →
+    ensures complete { (plan : Meaning) (g : Graph) →
+        TellsInput (texts words.now) (I.files inputs.old) plan g → IsInside plan.algorithm plan.source g.n →
         (Rose (I.faults inputs.old) (I.faults inputs.new) → ⊥) →
         (Rose (S.faults out.old) (S.faults out.new) → ⊥) → IsOrNoMemory Status.Ok result.status }
 

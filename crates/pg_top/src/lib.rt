@@ -1,11 +1,14 @@
 //! The program as one call: words in, a graph read, its answer written, and a status.
 #![tactic(auto)]
 
+mod agendas;
 mod columns;
 mod commands;
+mod crews;
+mod inputs;
 pub mod laws;
 mod relaxing;
-mod searching;
+mod solving;
 #[cfg(test)]
 mod tests;
 mod works;

@@ -1,28 +1,32 @@
-//! Breadth-first search over the ranks of a divided graph.
+//! Relaxation over the ranks of a divided graph.
 ghost use Rattle.std.specs.Prelude.{◌≡◌, ◌≤◌, length, map, IfOk};
 ghost use Rattle.pg_group.specs.Entries.{Each};
 ghost use Rattle.pg_dist.specs.Sharing.{IsSharing};
 ghost use Rattle.pg_relax.specs.Shown.{IsNewRelax, label_in, part_in};
-ghost use Rattle.pg_top.specs.Relaxed.{AreAnswers, AreInOrder, HavePlaces, IsRelaxation, IsRunOver};
+ghost use Rattle.pg_top.specs.Relaxed.{AreAnswers, AreInOrder, HavePlaces, IsRelaxation, IsRunOver, field_in};
 
-use crate::columns::Distances;
+use crate::agendas::Agendas;
+use crate::columns::{Answers, Field};
+use crate::crews::Crew;
 use pg_adj::{Part, split};
-use pg_agenda::Levels;
+use pg_agenda::Agenda;
 use pg_base::{EdgeList, Gate, OutOfMemory, Vertex};
 use pg_dist::Distribution;
-use pg_label::Hops;
+use pg_label::{Label, Value};
 use pg_lane::RingLanes;
 use pg_relax::Relax;
 use pg_run::{Finished, assemble, run};
 use std::alloc::Global;
 use std::sync::Wait;
+use std::thread::Threads;
 
-/// The relaxations of the parts, in their order, each with new levels.
-fn programs_of(
+/// The relaxations of the parts, in their order, each with a new agenda.
+fn programs_of<L: Label + Copy + Drop, A: Agenda + Drop, M: Agendas<A>>(
     alloc: Global,
     mut parts: Vec<Part>,
-    label: Hops,
-) -> Result<Vec<Relax<Hops, Levels>>, OutOfMemory>
+    label: L,
+    agendas: &M,
+) -> Result<Vec<Relax<L, A>>, OutOfMemory>
     ensures parts { IfOk result (λ programs. map part_in programs.items ≡ parts.items) }
     ensures new { IfOk result (λ programs. Each (λ rank p. IsNewRelax p) programs.items) }
     ensures labels { IfOk result (λ programs. Each (λ rank p. label_in p ≡ label) programs.items) }
@@ -31,75 +35,98 @@ fn programs_of(
         return Err(OutOfMemory);
     };
     while let Some(part) = parts.pop() {
-        let levels = Levels::new(alloc, part.count())?;
-        programs.push_reserved(Relax::new(alloc, part, label, levels)?);
+        let agenda = agendas.agenda(alloc, part.count())?;
+        programs.push_reserved(Relax::new(alloc, part, label, agenda)?);
     }
     programs.reverse();
     Ok(programs)
 }
 
-/// Searches from the label's source: relaxes the arcs of the parts, one of each rank, until all ranks have ended.
-pub(crate) fn search_parts<W: Wait, G: Gate>(
+/// Relaxes the arcs of the parts, one of each rank, until all ranks have ended.
+pub(crate) fn relax_parts<
+    W: Threads + Wait + Sync,
+    L: Label + Copy + Send + Drop,
+    A: Agenda + Send + Drop,
+    M: Agendas<A>,
+    G: Gate,
+>(
     token: &W,
     alloc: Global,
     parts: Vec<Part>,
-    label: Hops,
-    capacity: u32,
+    label: L,
+    agendas: &M,
+    crew: &Crew,
     gate: &G,
-) -> Result<Finished<Relax<Hops, Levels>>, OutOfMemory>
+) -> Result<Finished<Relax<L, A>>, OutOfMemory>
     requires at_least_one { 1 ≤ length parts.items }
     requires at_most { length parts.items ≤ 32 }
     requires order { AreInOrder parts.items }
-    requires capacity_at_least { 1 ≤ capacity }
-    requires capacity_at_most { capacity ≤ 1024 }
-    ensures { IfOk result (λ f. IsRunOver label (length parts.items) parts.items capacity f.programs.items f.lanes.items) }
+    ensures { IfOk result (λ f. IsRunOver label (length parts.items) parts.items crew.now.capacity f.programs.items f.lanes.items) }
 {
-    let programs = programs_of(alloc, parts, label)?;
-    let group = assemble::<Relax<Hops, Levels>, RingLanes>(&(), alloc, programs, capacity)?;
-    Ok(run(token, group, 1, gate))
+    let programs = programs_of(alloc, parts, label, agendas)?;
+    let group = assemble::<Relax<L, A>, RingLanes>(&(), alloc, programs, crew.capacity)?;
+    Ok(run(token, group, crew.threads, gate))
 }
 
-/// Divides the graph as `dist` says, and searches over its ranks until all have ended. The graph is let go once it is divided.
-pub(crate) fn search<W: Wait, D: Distribution, G: Gate>(
+/// Divides the graph as `dist` says, and relaxes over its ranks until all have ended. The graph is let go once it is divided.
+pub(crate) fn relax<
+    W: Threads + Wait + Sync,
+    D: Distribution,
+    L: Label + Copy + Send + Drop,
+    A: Agenda + Send + Drop,
+    M: Agendas<A>,
+    G: Gate,
+>(
     token: &W,
     alloc: Global,
     graph: EdgeList,
     dist: &D,
-    label: Hops,
-    capacity: u32,
+    label: L,
+    agendas: &M,
+    crew: &Crew,
     gate: &G,
-) -> Result<Finished<Relax<Hops, Levels>>, OutOfMemory>
+) -> Result<Finished<Relax<L, A>>, OutOfMemory>
     requires n { graph.n ≡ (D.sharing dist.now).n }
-    requires capacity_at_least { 1 ≤ capacity }
-    requires capacity_at_most { capacity ≤ 1024 }
     ensures laws { IsSharing (D.sharing dist.now) }
-    ensures found { IfOk result (λ f. IsRelaxation label (D.sharing dist.now) graph capacity f.programs.items f.lanes.items) }
+    ensures found { IfOk result (λ f. IsRelaxation label (D.sharing dist.now) graph crew.now.capacity f.programs.items f.lanes.items) }
 {
     let _ranks = dist.ranks();
     let parts = split(alloc, &graph, dist)?;
     drop(graph);
-    search_parts(token, alloc, parts, label, capacity, gate)
+    relax_parts(token, alloc, parts, label, agendas, crew, gate)
 }
 
-/// The number of arcs that the search found for each vertex from 1 to n, as the vertex's owner has it at the vertex's place.
-pub(crate) fn answers<D: Distribution>(
+/// One number of the value that the programs ended with for each vertex from 1 to n, as the vertex's owner has it at the vertex's
+/// place.
+pub(crate) fn answers<L: Label, A: Agenda, D: Distribution>(
     alloc: Global,
-    programs: &[Relax<Hops, Levels>],
+    programs: &[Relax<L, A>],
     dist: &D,
-) -> Result<Distances, OutOfMemory>
+    field: Field,
+) -> Result<Answers, OutOfMemory>
     requires ranks { length programs.now ≡ (D.sharing dist.now).ranks }
     requires places { HavePlaces (D.sharing dist.now) programs.now }
-    ensures { IfOk result (λ d. AreAnswers (D.sharing dist.now) programs.now d.hops.items) }
+    ensures { IfOk result (λ answers. AreAnswers field (D.sharing dist.now) programs.now answers.of_vertices.items) }
 {
     let n = dist.n();
-    let Ok(mut hops) = Vec::with_capacity(alloc, n as usize) else {
+    let Ok(mut of_vertices) = Vec::with_capacity(alloc, n as usize) else {
         return Err(OutOfMemory);
     };
     for place in 0..n {
         let v = Vertex(place + 1);
         let program = &programs[dist.owner(v).0 as usize];
-        let value = program.value(dist.local(v));
-        hops.push_reserved(value.map(|x| x.amount));
+        of_vertices.push_reserved(number(program.value(dist.local(v)), field));
     }
-    Ok(Distances { hops })
+    Ok(Answers { of_vertices })
+}
+
+/// One number of a value, if there is one.
+fn number(value: Option<Value>, field: Field) -> Option<u64>
+    ensures { result ≡ field_in field value }
+{
+    let value = value?;
+    Some(match field {
+        Field::Amount => value.amount,
+        Field::Class => u64::from(value.class),
+    })
 }

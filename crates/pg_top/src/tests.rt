@@ -4,11 +4,14 @@ ghost use Rattle.std.specs.Prelude.{Some};
 ghost use Rattle.pg_outside.specs.MemoryInputs.{faults_of, files_of, is_begun, left_of};
 
 use crate::command;
-use pg_base::{OpenGate, Status};
+use pg_base::{Gate, OpenGate, RankNo, Status};
 use pg_outside::{Failed, Inputs, MemoryInputs, MemorySink};
 use std::alloc::{AllocGlobal, Global};
 use std::sync::Wait;
+use std::sync::atomic::{AtomicBool, Ordering};
 use std::test::Fail;
+use std::thread;
+use std::thread::Threads;
 
 /// More than any text of these tests.
 const ROOM: usize = 1_048_576;
@@ -68,39 +71,56 @@ fn texts(alloc: Global, words: &[&str]) -> Result<Vec<String>, Fail> {
     Ok(texts)
 }
 
-/// Runs the words over the file, which comes in pieces; the calls of these numbers fail.
-fn run<W: Wait + AllocGlobal>(
+/// Runs the words over the files, which come in pieces; the calls of these numbers fail.
+fn run_over<W: Threads + Wait + Sync + AllocGlobal, G: Gate>(
+    rt: &W,
+    words: &[&str],
+    named: &[(&str, &str)],
+    failing_reads: Vec<u64>,
+    failing_writes: Vec<(u64, usize)>,
+    gate: &G,
+) -> Result<Seen, Fail> {
+    let alloc = rt.alloc();
+    let mut files = Vec::new(alloc);
+    for (name, text) in named {
+        files.push((
+            String::from_str(alloc, name)?,
+            Vec::from_slice(alloc, text.as_bytes())?,
+        ))?;
+    }
+    let mut inputs = MemoryInputs::new(files, 1, failing_reads);
+    let mut out = MemorySink::new(alloc, ROOM, failing_writes)?;
+    let mut errs = MemorySink::new(alloc, ROOM, Vec::new(alloc))?;
+    let words = texts(alloc, words)?;
+    let answer = command(rt, alloc, &words, &mut inputs, &mut out, &mut errs, gate);
+    let status = answer.status;
+    Ok(Seen { status, out, errs })
+}
+
+/// Runs the words over the file with the name `B`.
+fn run<W: Threads + Wait + Sync + AllocGlobal>(
     rt: &W,
     words: &[&str],
     file: &str,
     failing_reads: Vec<u64>,
     failing_writes: Vec<(u64, usize)>,
 ) -> Result<Seen, Fail> {
-    let alloc = rt.alloc();
-    let mut files = Vec::new(alloc);
-    files.push((
-        String::from_str(alloc, "B")?,
-        Vec::from_slice(alloc, file.as_bytes())?,
-    ))?;
-    let mut inputs = MemoryInputs::new(files, 1, failing_reads);
-    let mut out = MemorySink::new(alloc, ROOM, failing_writes)?;
-    let mut errs = MemorySink::new(alloc, ROOM, Vec::new(alloc))?;
-    let words = texts(alloc, words)?;
-    let answer = command(
+    run_over(
         rt,
-        alloc,
-        &words,
-        &mut inputs,
-        &mut out,
-        &mut errs,
+        words,
+        &[("B", file)],
+        failing_reads,
+        failing_writes,
         &OpenGate,
-    );
-    let status = answer.status;
-    Ok(Seen { status, out, errs })
+    )
 }
 
 /// Runs a search of the file from this source, with nothing failing.
-fn search<W: Wait + AllocGlobal>(rt: &W, file: &str, source: &str) -> Result<Seen, Fail> {
+fn search<W: Threads + Wait + Sync + AllocGlobal>(
+    rt: &W,
+    file: &str,
+    source: &str,
+) -> Result<Seen, Fail> {
     let alloc = rt.alloc();
     let words = ["bfs", "B", "--source", source];
     run(rt, &words, file, Vec::new(alloc), Vec::new(alloc))
@@ -226,7 +246,9 @@ fn words_that_are_no_command_line_are_refused(rt: HostRuntime) -> Result<(), Fai
         "bfs B --source 1 --delta 4 ",
         "bfs B --source 1 --ranks 33 ",
         "components B --source 1 ",
-        "sssp B --source 1 ",
+        "sssp B --source 1 --delta 0 ",
+        "bfs B --source 1 --threads 0 ",
+        "forest B ",
         "--help ",
     ] {
         let words = words_of(alloc, line)?;
@@ -283,9 +305,11 @@ fn no_name_is_begun_but_that_of_the_plan(rt: HostRuntime) -> Result<(), Fail> {
         ("bfs B --source 9 ", 1),
         ("bfs B ", 0),
         ("bfs B --source x ", 0),
-        ("bfs B --source 1 --threads 1 ", 0),
+        ("bfs B --source 1 --threads 33 ", 0),
         ("bfs B --source 1 --ranks 2 ", 1),
-        ("sssp B --source 1 ", 0),
+        ("bfs B --source 1 --parts B ", 2),
+        ("components B ", 1),
+        ("forest B ", 0),
     ] {
         let file = Vec::from_slice(alloc, PATH.as_bytes())?;
         let files = vec![in alloc; (String::from_str(alloc, "B")?, file)]?;
@@ -311,32 +335,239 @@ fn no_name_is_begun_but_that_of_the_plan(rt: HostRuntime) -> Result<(), Fail> {
     Ok(())
 }
 
+/// The weights 5 and 2 in a row, and a vertex of its own, by `sssp` from 1.
+const WEIGHTS: &str = "0\n5\n7\n-\n";
+
+/// Two edges of weight 1 undercut one of weight 10.
+const DETOUR: &str = "3 3 1\n2 10 3 1\n1 10 3 1\n1 1 2 1\n";
+
 #[test]
 fn every_number_of_ranks_and_every_capacity_prints_the_same(rt: HostRuntime) -> Result<(), Fail> {
     let alloc = rt.alloc();
-    for (file, source, text) in [
-        (PATH, "2", "1\n0\n1\n"),
-        (MESH, "1", "0\n1\n1\n2\n1\n2\n3\n"),
-        (LONG_PATH, "6", "5\n4\n3\n2\n1\n0\n"),
-        (WEIGHTED, "1", "0\n1\n2\n-\n"),
+    for (line, file, text) in [
+        ("bfs B --source 2 ", PATH, "1\n0\n1\n"),
+        ("bfs B --source 1 ", MESH, "0\n1\n1\n2\n1\n2\n3\n"),
+        ("bfs B --source 6 ", LONG_PATH, "5\n4\n3\n2\n1\n0\n"),
+        ("bfs B --source 1 ", WEIGHTED, "0\n1\n2\n-\n"),
+        ("sssp B --source 1 ", WEIGHTED, WEIGHTS),
+        ("sssp B --source 1 --delta 1 ", DETOUR, "0\n2\n1\n"),
+        ("sssp B --source 1 --delta 5 ", DETOUR, "0\n2\n1\n"),
+        ("sssp B --source 1 --delta 4294967295 ", DETOUR, "0\n2\n1\n"),
+        ("components B ", WEIGHTED, "1\n1\n1\n4\n"),
+        ("components B ", LONG_PATH, "1\n1\n1\n1\n1\n1\n"),
     ] {
         for ranks in ["1", "2", "3", "7", "32"] {
             for capacity in ["1", "1024"] {
-                let words = [
-                    "bfs",
-                    "B",
-                    "--source",
-                    source,
-                    "--ranks",
-                    ranks,
-                    "--capacity",
-                    capacity,
-                ];
+                let mut words = words_of(alloc, line)?;
+                for word in ["--ranks", ranks, "--capacity", capacity] {
+                    words.push(word)?;
+                }
                 let seen = run(&rt, &words, file, Vec::new(alloc), Vec::new(alloc))?;
                 assert_eq!(rt; seen.status, Status::Ok);
-                assert_eq!(rt; seen.out.text(), text.as_bytes(), "{ranks} {capacity}");
+                assert_eq!(rt;
+                    seen.out.text(),
+                    text.as_bytes(),
+                    "{line} {ranks} {capacity}"
+                );
             }
         }
     }
+    Ok(())
+}
+
+#[test]
+fn a_weight_may_be_the_greatest_number_of_32_bits(rt: HostRuntime) -> Result<(), Fail> {
+    let alloc = rt.alloc();
+    let file = "2 1 1\n2 4294967295\n1 4294967295\n";
+    let words = ["sssp", "B", "--source", "2"];
+    let seen = run(&rt, &words, file, Vec::new(alloc), Vec::new(alloc))?;
+    assert_eq!(rt; seen.status, Status::Ok);
+    assert_eq!(rt; seen.out.text(), b"4294967295\n0\n".as_slice());
+    Ok(())
+}
+
+#[test]
+fn components_of_no_vertex_print_nothing(rt: HostRuntime) -> Result<(), Fail> {
+    let alloc = rt.alloc();
+    let words = ["components", "B", "--ranks", "3"];
+    let seen = run(&rt, &words, "0 0\n", Vec::new(alloc), Vec::new(alloc))?;
+    assert_eq!(rt; seen.status, Status::Ok);
+    assert_eq!(rt; seen.out.text(), b"".as_slice());
+    Ok(())
+}
+
+#[test]
+fn a_partition_file_says_who_owns_which_vertex(rt: HostRuntime) -> Result<(), Fail> {
+    let alloc = rt.alloc();
+    for (line, text) in [
+        ("bfs B --source 1 --ranks 4 --parts P ", "0\n1\n2\n-\n"),
+        ("sssp B --source 1 --ranks 4 --parts P ", WEIGHTS),
+        (
+            "components B --parts P --ranks 4 --capacity 1 ",
+            "1\n1\n1\n4\n",
+        ),
+    ] {
+        for parts in ["0\n1\n3\n0\n", "3\n3\n3\n3\n", "% owners\n2\n0\n2\n1\n \n"] {
+            let named = [("B", WEIGHTED), ("P", parts)];
+            let words = words_of(alloc, line)?;
+            let seen = run_over(
+                &rt,
+                &words,
+                &named,
+                Vec::new(alloc),
+                Vec::new(alloc),
+                &OpenGate,
+            )?;
+            assert_eq!(rt; seen.status, Status::Ok);
+            assert_eq!(rt; seen.out.text(), text.as_bytes(), "{line} {parts}");
+            assert_eq!(rt; seen.errs.text(), b"".as_slice());
+        }
+    }
+    Ok(())
+}
+
+#[test]
+fn the_first_fault_that_is_met_is_told(rt: HostRuntime) -> Result<(), Fail> {
+    let alloc = rt.alloc();
+    for (graph, parts, source, status, line) in [
+        (
+            WEIGHTED,
+            "0\n1\n5\n0\n",
+            "1",
+            Status::BadParts,
+            "parts line 3: OutOfRange\n",
+        ),
+        (
+            WEIGHTED,
+            "0\n\n1\n0\n",
+            "1",
+            Status::BadParts,
+            "parts line 2: BadNumber\n",
+        ),
+        (
+            WEIGHTED,
+            "0 1\n0\n0\n0\n",
+            "1",
+            Status::BadParts,
+            "parts line 1: ExtraText\n",
+        ),
+        (
+            WEIGHTED,
+            "0\n1\n",
+            "9",
+            Status::BadParts,
+            "parts line 3: MissingLines\n",
+        ),
+        (
+            "4 2 1\n2 5\n",
+            "x\n",
+            "9",
+            Status::BadGraph,
+            "line 3: MissingLines\n",
+        ),
+        (
+            WEIGHTED,
+            "0\n0\n0\n0\n",
+            "9",
+            Status::BadSource,
+            "source 9: not in the graph\n",
+        ),
+    ] {
+        let named = [("B", graph), ("P", parts)];
+        let words = [
+            "bfs", "B", "--source", source, "--ranks", "4", "--parts", "P",
+        ];
+        let seen = run_over(
+            &rt,
+            &words,
+            &named,
+            Vec::new(alloc),
+            Vec::new(alloc),
+            &OpenGate,
+        )?;
+        assert_eq!(rt; seen.status, status);
+        assert_eq!(rt; seen.out.text(), b"".as_slice());
+        assert_eq!(rt; seen.errs.text(), line.as_bytes());
+    }
+    Ok(())
+}
+
+#[test]
+fn a_missing_partition_file_cannot_be_read(rt: HostRuntime) -> Result<(), Fail> {
+    let alloc = rt.alloc();
+    let words = ["components", "B", "--parts", "P"];
+    let seen = run(&rt, &words, WEIGHTED, Vec::new(alloc), Vec::new(alloc))?;
+    assert_eq!(rt; seen.status, Status::ReadFault);
+    assert_eq!(rt; seen.out.text(), b"".as_slice());
+    assert_eq!(rt; seen.errs.text(), b"cannot read\n".as_slice());
+    Ok(())
+}
+
+/// How often a rank looks for the other one before it goes on.
+const LOOKS: u64 = 50_000_000;
+
+/// Holds each of two ranks before its first turn until the other one came there too.
+#[derive(Drop)]
+struct Meeting {
+    came: [AtomicBool; 2],
+    gave_up: AtomicBool,
+}
+
+impl Meeting {
+    fn new() -> Meeting {
+        Meeting {
+            came: [AtomicBool::new(false), AtomicBool::new(false)],
+            gave_up: AtomicBool::new(false),
+        }
+    }
+
+    fn note(&self, rank: RankNo) {
+        if let Some(came) = self.came.get(rank.0 as usize) {
+            came.store(true, Ordering::SeqCst);
+        }
+    }
+
+    fn came_all(&self) -> bool {
+        self.came.iter().all(|came| came.load(Ordering::SeqCst))
+    }
+
+    fn gave_up(&self) -> bool {
+        self.gave_up.load(Ordering::SeqCst)
+    }
+}
+
+impl Gate for Meeting {
+    fn pass(&self, rank: RankNo, turn: u64) {
+        self.note(rank);
+        if turn != 1 {
+            return;
+        }
+        for _ in 0..LOOKS {
+            if self.came_all() {
+                return;
+            }
+            thread::yield_now();
+        }
+        self.gave_up.store(true, Ordering::SeqCst);
+    }
+}
+
+/// Runs a search over two ranks on two threads, which go through the gate.
+fn search_through<W: Threads + Wait + Sync + AllocGlobal, G: Gate>(
+    rt: &W,
+    gate: &G,
+) -> Result<Seen, Fail> {
+    let alloc = rt.alloc();
+    let words = words_of(alloc, "bfs B --source 1 --ranks 2 --threads 2 ")?;
+    let named = [("B", MESH)];
+    run_over(rt, &words, &named, Vec::new(alloc), Vec::new(alloc), gate)
+}
+
+#[test]
+fn two_threads_drive_two_ranks_side_by_side(rt: HostRuntime) -> Result<(), Fail> {
+    let gate = Meeting::new();
+    let seen = search_through(&rt, &gate)?;
+    assert_eq!(rt; seen.out.text(), b"0\n1\n1\n2\n1\n2\n3\n".as_slice());
+    assert_eq!(rt; gate.gave_up(), false);
     Ok(())
 }

@@ -1,6 +1,6 @@
-use pg_agenda::Levels;
+use pg_agenda::{Buckets, Levels};
 use pg_base::Status;
-use pg_label::Hops;
+use pg_label::{Hops, Root, Weight};
 use pg_relax::Relax;
 use pg_run::Finished;
 
@@ -12,6 +12,10 @@ pub enum Work {
     None,
     /// Those of a breadth-first search.
     Hops(Finished<Relax<Hops, Levels>>),
+    /// Those of least weights, by delta-stepping.
+    Weights(Finished<Relax<Weight, Buckets>>),
+    /// Those of components.
+    Roots(Finished<Relax<Root, Levels>>),
 }
 
 /// How a run ended, and what it leaves.

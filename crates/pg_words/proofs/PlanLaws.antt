@@ -3,7 +3,7 @@ use Rattle.std.proofs.Common.{◌≡◌, ◌≢◌, ◌∙◌, ◌&&◌, Bool, t
 use Rattle.clap.specs.Kinds.{Kinds}
 use Rattle.clap.specs.Walk.{Row, Text}
 use Rattle.pg_words.specs.CommandLine.{faults_in, found_in, told}
-use Rattle.pg_words.specs.Needs.{delta_need, file_need, fits, fits_crew, fits_task, is_met, size_need, source_need}
+use Rattle.pg_words.specs.Needs.{delta_need, fits, fits_files, fits_task, is_met, size_need, source_need}
 use Rattle.pg_words.specs.Plan.{plan_if, plan_in, plan_of}
 use Rattle.pg_words.specs.declared.plans.Algorithm.{Algorithm}
 use Rattle.pg_words.specs.declared.plans.Algorithm.TheVariants.{Grid}
@@ -20,15 +20,14 @@ pub plan_of-refused : (words : List Text) → faults_in words ≢ [] → plan_of
 unfolding plan_of
 plan_of-refused words some = none_if (faults_in words) (found_in words) some
 
--- The fourth and the fifth of six tests, after another.
-late_tests : (z a b c d e f : Bool) → (z && (a && b && c && d && e && f)) ≡ true → (d ≡ true) × (e ≡ true)
-late_tests z a b c d e f h = grind arith
+-- The third and the fourth of five tests, after another.
+late_tests : (z a b c d e : Bool) → (z && (a && b && c && d && e)) ≡ true → (c ≡ true) × (d ≡ true)
+late_tests z a b c d e h = grind arith
 
 pub grid_sides : (a : Algorithm) (rows : List Row) → fits a rows ≡ true → a ≡ Grid → (is_some (told rows (codes "width")) ≡ true) × (is_some (told rows (codes "height")) ≡ true)
 unfolding fits fits_task
 grid_sides a rows h is = late_tests
-    (fits_crew Grid rows)
-    (is_met (file_need Grid) (told rows (codes "file")))
+    (fits_files Grid rows)
     (is_met (source_need Grid) (told rows (codes "source")))
     (is_met (delta_need Grid) (told rows (codes "delta")))
     (is_some (told rows (codes "width")))

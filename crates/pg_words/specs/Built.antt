@@ -1,19 +1,22 @@
 -- What plans ask for today.
-use Rattle.std.specs.Prelude.{◌≡◌, ◌≤◌, Some, None, List}
+use Rattle.std.specs.Prelude.{◌≡◌, ◌≤◌, ◌⊎◌, Some, List}
 use Rattle.clap.specs.Walk.{Text}
 use Rattle.pg_words.specs.Plan.{Meaning, plan_of}
-use Rattle.pg_words.specs.declared.plans.Algorithm.TheVariants.{Bfs}
+use Rattle.pg_words.specs.declared.plans.Algorithm.{Algorithm}
+use Rattle.pg_words.specs.declared.plans.Algorithm.TheVariants.{Bfs, Sssp, Components}
 
--- Breadth-first search on 1 to 32 ranks, with lanes of 1 to 1,024 messages, no number of threads that a word
--- chose and no partition file.
+-- Breadth-first search, least weights and components.
+abbrev pub IsBuiltAlgorithm : Algorithm → Type 0
+IsBuiltAlgorithm a = (a ≡ Bfs) ⊎ (a ≡ Sssp) ⊎ (a ≡ Components)
+
+-- Such an algorithm on 1 to 32 ranks and 1 to 32 threads, with lanes of 1 to 1,024 messages; least weights by
+-- buckets of a width of at least 1.
 pub record IsBuilt (plan : Meaning) : Type 0 where
-  pub algorithm : plan.algorithm ≡ Bfs
-  pub first : 1 ≤ plan.ranks
-  pub last : plan.ranks ≤ 32
-  pub threads : plan.threads ≡ plan.ranks
-  pub least : 1 ≤ plan.capacity
-  pub most : plan.capacity ≤ 1024
-  pub parts : plan.parts ≡ None
+  pub algorithm : IsBuiltAlgorithm plan.algorithm
+  pub ranks : (1 ≤ plan.ranks) × (plan.ranks ≤ 32)
+  pub threads : (1 ≤ plan.threads) × (plan.threads ≤ 32)
+  pub capacity : (1 ≤ plan.capacity) × (plan.capacity ≤ 1024)
+  pub delta : plan.algorithm ≡ Sssp → 1 ≤ plan.delta
 
 -- No words mean a plan for anything that isn't built.
 abbrev pub PlansAreBuilt : Type 0

@@ -1,11 +1,11 @@
--- Which words each algorithm takes. What isn't built is refused here, and here alone: an algorithm that
--- `algorithm_named` doesn't know, and an option whose need is Refused.
+-- Which words each algorithm takes. What isn't built is refused here, and here alone: it is an algorithm that
+-- `algorithm_named` doesn't know.
 use Rattle.std.specs.Prelude.{Bool, true, not, ◌&&◌, if◌then◌else◌, Option, Some, None, is_some, option_and_then, List, codes}
 use Rattle.std.specs.Str.{bytes_eq}
 use Rattle.clap.specs.Walk.{Row, Text}
 use Rattle.pg_words.specs.CommandLine.{told}
 use Rattle.pg_words.specs.declared.plans.Algorithm.{Algorithm}
-use Rattle.pg_words.specs.declared.plans.Algorithm.TheVariants.{Bfs, Sssp, Grid}
+use Rattle.pg_words.specs.declared.plans.Algorithm.TheVariants.{Bfs, Sssp, Components, Grid}
 use Rattle.pg_words.specs.declared.plans.Need.{Need}
 use Rattle.pg_words.specs.declared.plans.Need.TheVariants.{Required, Optional, Refused}
 
@@ -13,29 +13,21 @@ use Rattle.pg_words.specs.declared.plans.Need.TheVariants.{Required, Optional, R
 
 -- No word means another algorithm yet.
 unfoldable pub algorithm_named : Text → Option Algorithm
-algorithm_named word = if bytes_eq word (codes "bfs") then Some Bfs else None
+algorithm_named word =
+    if bytes_eq word (codes "bfs") then Some Bfs
+    else if bytes_eq word (codes "sssp") then Some Sssp
+    else if bytes_eq word (codes "components") then Some Components
+    else None
 
--- Breadth-first search runs over ranks, with lanes of a capacity between them.
-abbrev pub ranks_need : Algorithm → Need
-ranks_need Bfs = Optional
-ranks_need _ = Refused
-
-abbrev pub capacity_need : Algorithm → Need
-capacity_need Bfs = Optional
-capacity_need _ = Refused
-
--- No algorithm runs on threads of its own or reads a partition file yet, so none takes the words for them.
-abbrev pub threads_need : Algorithm → Need
-threads_need _ = Refused
-
-abbrev pub parts_need : Algorithm → Need
-parts_need _ = Refused
-
--- ---- what each algorithm asks for
+-- ---- what each algorithm asks for, besides `--ranks`, `--threads` and `--capacity`, which each takes
 
 abbrev pub file_need : Algorithm → Need
 file_need Grid = Refused
 file_need _ = Required
+
+abbrev pub parts_need : Algorithm → Need
+parts_need Grid = Refused
+parts_need _ = Optional
 
 abbrev pub source_need : Algorithm → Need
 source_need Bfs = Required
@@ -62,21 +54,18 @@ is_met Required word = is_some word
 is_met Optional word = true
 is_met Refused word = not (is_some word)
 
--- The words on who does the work.
-unfoldable pub fits_crew : Algorithm → List Row → Bool
-fits_crew a rows = is_met (ranks_need a) (told rows (codes "ranks"))
-    && is_met (threads_need a) (told rows (codes "threads"))
-    && is_met (capacity_need a) (told rows (codes "capacity"))
+-- The words on which files are read.
+unfoldable pub fits_files : Algorithm → List Row → Bool
+fits_files a rows = is_met (file_need a) (told rows (codes "file"))
     && is_met (parts_need a) (told rows (codes "parts"))
 
 -- The words on what is computed.
 unfoldable pub fits_task : Algorithm → List Row → Bool
-fits_task a rows = is_met (file_need a) (told rows (codes "file"))
-    && is_met (source_need a) (told rows (codes "source"))
+fits_task a rows = is_met (source_need a) (told rows (codes "source"))
     && is_met (delta_need a) (told rows (codes "delta"))
     && is_met (size_need a) (told rows (codes "width"))
     && is_met (size_need a) (told rows (codes "height"))
     && is_met (size_need a) (told rows (codes "seed"))
 
 unfoldable pub fits : Algorithm → List Row → Bool
-fits a rows = fits_crew a rows && fits_task a rows
+fits a rows = fits_files a rows && fits_task a rows

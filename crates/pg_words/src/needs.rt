@@ -2,7 +2,7 @@
 ghost use Rattle.std.specs.Prelude.{◌≡◌, option_map};
 ghost use Rattle.clap.specs.Matches.{found_of};
 ghost use Rattle.clap.specs.Walk.{rows_of};
-ghost use Rattle.pg_words.specs.Needs.{algorithm_in, algorithm_named, capacity_need, delta_need, file_need, fits, fits_crew, fits_task, is_met, parts_need, ranks_need, size_need, source_need, threads_need};
+ghost use Rattle.pg_words.specs.Needs.{algorithm_in, algorithm_named, delta_need, file_need, fits, fits_files, fits_task, is_met, parts_need, size_need, source_need};
 
 use crate::Algorithm;
 use crate::plans::Need;
@@ -16,38 +16,10 @@ fn algorithm_named(word: &str) -> Option<Algorithm>
 {
     match word {
         "bfs" => Some(Algorithm::Bfs),
+        "sssp" => Some(Algorithm::Sssp),
+        "components" => Some(Algorithm::Components),
         _ => None,
     }
-}
-
-fn ranks_need(algorithm: Algorithm) -> Need
-    ensures { result ≡ ranks_need algorithm }
-{
-    match algorithm {
-        Algorithm::Bfs => Need::Optional,
-        _ => Need::Refused,
-    }
-}
-
-fn threads_need(_algorithm: Algorithm) -> Need
-    ensures { result ≡ threads_need _algorithm }
-{
-    Need::Refused
-}
-
-fn capacity_need(algorithm: Algorithm) -> Need
-    ensures { result ≡ capacity_need algorithm }
-{
-    match algorithm {
-        Algorithm::Bfs => Need::Optional,
-        _ => Need::Refused,
-    }
-}
-
-fn parts_need(_algorithm: Algorithm) -> Need
-    ensures { result ≡ parts_need _algorithm }
-{
-    Need::Refused
 }
 
 fn file_need(algorithm: Algorithm) -> Need
@@ -56,6 +28,15 @@ fn file_need(algorithm: Algorithm) -> Need
     match algorithm {
         Algorithm::Grid => Need::Refused,
         _ => Need::Required,
+    }
+}
+
+fn parts_need(algorithm: Algorithm) -> Need
+    ensures { result ≡ parts_need algorithm }
+{
+    match algorithm {
+        Algorithm::Grid => Need::Refused,
+        _ => Need::Optional,
     }
 }
 
@@ -106,14 +87,12 @@ fn is_met(need: Need, word: Option<&str>) -> bool
     }
 }
 
-/// Whether the words on who does the work are those that the algorithm takes.
-#[tactic(auto, unfolding(crate::specs::Needs::fits_crew))]
-fn fits_crew(algorithm: Algorithm, matches: &ArgMatches) -> bool
-    ensures { result ≡ fits_crew algorithm (rows_of (found_of matches.now)) }
+/// Whether the words on which files are read are those that the algorithm takes.
+#[tactic(auto, unfolding(crate::specs::Needs::fits_files))]
+fn fits_files(algorithm: Algorithm, matches: &ArgMatches) -> bool
+    ensures { result ≡ fits_files algorithm (rows_of (found_of matches.now)) }
 {
-    is_met(ranks_need(algorithm), told(matches, "ranks"))
-        && is_met(threads_need(algorithm), told(matches, "threads"))
-        && is_met(capacity_need(algorithm), told(matches, "capacity"))
+    is_met(file_need(algorithm), told(matches, "file"))
         && is_met(parts_need(algorithm), told(matches, "parts"))
 }
 
@@ -123,8 +102,7 @@ fn fits_task(algorithm: Algorithm, matches: &ArgMatches) -> bool
     ensures { result ≡ fits_task algorithm (rows_of (found_of matches.now)) }
 {
     let size_need = size_need(algorithm);
-    is_met(file_need(algorithm), told(matches, "file"))
-        && is_met(source_need(algorithm), told(matches, "source"))
+    is_met(source_need(algorithm), told(matches, "source"))
         && is_met(delta_need(algorithm), told(matches, "delta"))
         && is_met(size_need, told(matches, "width"))
         && is_met(size_need, told(matches, "height"))
@@ -136,5 +114,5 @@ fn fits_task(algorithm: Algorithm, matches: &ArgMatches) -> bool
 pub fn fits(algorithm: Algorithm, matches: &ArgMatches) -> bool
     ensures { result ≡ fits algorithm (rows_of (found_of matches.now)) }
 {
-    fits_crew(algorithm, matches) && fits_task(algorithm, matches)
+    fits_files(algorithm, matches) && fits_task(algorithm, matches)
 }

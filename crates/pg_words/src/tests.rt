@@ -75,6 +75,86 @@ fn sources_reach_up_to_32_bits(rt: HostRuntime) -> Result<(), Fail> {
 }
 
 #[test]
+fn least_weights_have_a_delta_of_32_where_none_is_told(rt: HostRuntime) -> Result<(), Fail> {
+    let alloc = rt.alloc();
+    for (line, delta) in [
+        ("sssp A --source 3 ", 32),
+        ("sssp A --source 3 --delta 1 ", 1),
+        ("--delta=4294967295 sssp A --source 3 ", u32::MAX),
+    ] {
+        let plan = planned(alloc, line)??;
+        assert!(rt;
+            plan.algorithm == Algorithm::Sssp && plan.file.as_str() == "A" && plan.source == 3
+        );
+        assert!(rt; plan.ranks == 1 && plan.threads == 1 && plan.capacity == 1024);
+        assert!(rt; plan.parts.is_none());
+        assert_eq!(rt; plan.delta, delta);
+    }
+    for line in [
+        "sssp A ",
+        "sssp A --delta 1 ",
+        "sssp A --source 3 --delta 0 ",
+        "sssp A --source 3 --delta 4294967296 ",
+        "sssp A --source 3 --delta= ",
+    ] {
+        assert!(rt; is_refused(alloc, line)?);
+    }
+    Ok(())
+}
+
+#[test]
+fn components_have_no_source_and_no_delta(rt: HostRuntime) -> Result<(), Fail> {
+    let plan = planned(rt.alloc(), "components A ")??;
+    assert!(rt; plan.algorithm == Algorithm::Components && plan.file.as_str() == "A");
+    assert!(rt; plan.source == 0 && plan.delta == 0);
+    assert!(rt; plan.ranks == 1 && plan.threads == 1 && plan.capacity == 1024);
+    assert!(rt; plan.parts.is_none());
+    Ok(())
+}
+
+#[test]
+fn there_are_as_many_threads_as_ranks_where_none_are_told(rt: HostRuntime) -> Result<(), Fail> {
+    let alloc = rt.alloc();
+    for (line, ranks, threads) in [
+        ("bfs A --source 1 --ranks 4 ", 4, 4),
+        ("bfs A --source 1 --ranks 4 --threads 2 ", 4, 2),
+        ("sssp A --source 1 --threads=32 ", 1, 32),
+        ("components A --threads 1 --ranks 32 ", 32, 1),
+    ] {
+        let plan = planned(alloc, line)??;
+        assert_eq!(rt; plan.ranks, ranks);
+        assert_eq!(rt; plan.threads, threads);
+    }
+    for line in [
+        "bfs A --source 1 --threads 0 ",
+        "sssp A --source 1 --threads 33 ",
+        "components A --threads= ",
+    ] {
+        assert!(rt; is_refused(alloc, line)?);
+    }
+    Ok(())
+}
+
+#[test]
+fn each_algorithm_takes_a_partition_file_of_any_name(rt: HostRuntime) -> Result<(), Fail> {
+    let alloc = rt.alloc();
+    for (line, name) in [
+        ("bfs A --source 1 --parts P ", "P"),
+        ("sssp A --source 1 --parts=P ", "P"),
+        ("components A --parts - ", "-"),
+        ("components A --parts= ", ""),
+    ] {
+        let plan = planned(alloc, line)??;
+        assert!(rt; plan.file.as_str() == "A");
+        assert!(rt; plan.parts.as_deref() == Some(name));
+    }
+    for line in ["components A --parts ", "components A --parts P --parts P "] {
+        assert!(rt; is_refused(alloc, line)?);
+    }
+    Ok(())
+}
+
+#[test]
 fn ranks_and_capacity_have_their_ranges(rt: HostRuntime) -> Result<(), Fail> {
     let alloc = rt.alloc();
     for (line, ranks, capacity) in [
@@ -143,13 +223,6 @@ fn words_that_are_no_command_line_are_refused(rt: HostRuntime) -> Result<(), Fai
 fn what_is_not_built_is_refused(rt: HostRuntime) -> Result<(), Fail> {
     let alloc = rt.alloc();
     for line in [
-        "bfs A --source 1 --threads 1 ",
-        "bfs A --source 1 --ranks 2 --threads 2 ",
-        "bfs A --source 1 --parts P ",
-        "bfs A --source 1 --parts= ",
-        "sssp A --source 3 ",
-        "sssp A --source 3 --delta 1 ",
-        "components A ",
         "forest A ",
         "colour A ",
         "grid --width 2 --height 2 --seed 7 ",
@@ -167,7 +240,10 @@ fn options_of_other_algorithms_are_refused(rt: HostRuntime) -> Result<(), Fail> 
         "bfs A --source 1 --width 2 ",
         "bfs A --source 1 --height 2 ",
         "bfs A --source 1 --seed 7 ",
+        "sssp A --source 1 --width 2 ",
         "components A --source 1 ",
+        "components A --delta 4 ",
+        "components A --seed 7 ",
     ] {
         assert!(rt; is_refused(alloc, line)?);
     }

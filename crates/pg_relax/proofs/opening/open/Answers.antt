@@ -1,4 +1,4 @@
-use Rattle.std.proofs.Common.{◌∙◌, ◌≡◌, ◌<◌, length, subst, sym, ap, arith, Some, None, ℕ}
+use Rattle.std.proofs.Common.{◌∙◌, subst, sym, ap, arith}
 use Rattle.pg_relax.specs.Kept.{IsOpenBelow}
 use Rattle.pg_relax.specs.States.{label_of}
 use Rattle.pg_relax.proofs.OpeningLemmas.{opened_next}

@@ -1,4 +1,3 @@
-use Rattle.std.proofs.Common.{◌≡◌, ◌≤◌, ℕ, List, sym, subst}
 use Rattle.pg_group.proofs.Popped.{stands_at}
 use Rattle.pg_relax.proofs.tests.sites.Goals as goal
 

@@ -1,4 +1,4 @@
-use Rattle.std.proofs.Common.{◌≡◌, ◌+◌, [], ◌∷◌, ◌++◌, length, sym, ap, ◌∙◌, length-append}
+use Rattle.std.proofs.Common.{◌+◌, length, sym, ap, ◌∙◌, length-append}
 use Rattle.pg_group.proofs.Growing.{each_push}
 use Rattle.pg_run.proofs.counting_tests.busy_programs.Goals as goal
 

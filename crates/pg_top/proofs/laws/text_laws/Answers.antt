@@ -1,5 +1,5 @@
-use Rattle.pg_top.proofs.SearchTexts.{search_text_is_one}
+use Rattle.pg_top.proofs.SearchTexts.{text_is_one}
 use Rattle.pg_top.proofs.laws.text_laws.Goals as goal
 
 pub returns : goal.returns
-returns c = search_text_is_one
+returns c = text_is_one

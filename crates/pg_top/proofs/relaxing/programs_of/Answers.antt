@@ -5,7 +5,7 @@ use Rattle.pg_run.proofs.Seating.{taken_over, each_reverse}
 use Rattle.pg_top.proofs.relaxing.programs_of.Goals as goal
 
 pub loop-part-preserved : goal.loop-part-preserved
-loop-part-preserved c =
+loop-part-preserved g c =
     let inv = c.loop-part.invariant in
     let last = c.in-Some.ensures.items in
     let r = c.in_ok-new.field-0 in
@@ -22,7 +22,7 @@ loop-part-preserved c =
     }
 
 pub returns-clause-new : goal.returns-clause-new
-returns-clause-new c = subst (λ l. Each (λ rank p. IsNewRelax p) l) (sym c.reverse.ensures.items) c.loop-part.invariant.new
+returns-clause-new g c = subst (λ l. Each (λ rank p. IsNewRelax p) l) (sym c.reverse.ensures.items) c.loop-part.invariant.new
 
 pub returns-clause-labels : goal.returns-clause-labels
-returns-clause-labels c = subst (λ l. Each (λ rank p. label_in p ≡ c.args.label) l) (sym c.reverse.ensures.items) c.loop-part.invariant.labels
+returns-clause-labels g c = subst (λ l. Each (λ rank p. label_in p ≡ c.args.label) l) (sym c.reverse.ensures.items) c.loop-part.invariant.labels

@@ -5,7 +5,7 @@ use Rattle.pg_relax.specs.Shown.{IsNewRelax, label_in, part_in}
 use Rattle.pg_top.proofs.relaxing.programs_of.Given as goal
 
 abbrev pub invariant-loop-part : goal.invariant-loop-part
-invariant-loop-part l =
+invariant-loop-part g l =
     record {
       parts : l.fn.parts.items ≡ l.parts.items ++ map part_in (reverse l.programs.items);
       fit : length l.parts.items + length l.programs.items ≤ vec_capacity l.programs;
@@ -14,4 +14,4 @@ invariant-loop-part l =
     }
 
 abbrev pub decreases-loop-part : goal.decreases-loop-part
-decreases-loop-part l = vec_len l.parts
+decreases-loop-part g l = vec_len l.parts

@@ -1,5 +1,4 @@
-use Rattle.std.proofs.Common.{length, ◌≡◌, subst, Some, Option, List}
-use Rattle.pg_relax.specs.declared.ahead.Ahead.{Ahead}
+use Rattle.std.proofs.Common.{subst}
 use Rattle.pg_relax.specs.Rounds.{count_of}
 use Rattle.pg_relax.specs.States.{label_of, Relaxes}
 use Rattle.pg_relax.proofs.KeptLemmas.{at_work}

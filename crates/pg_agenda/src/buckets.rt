@@ -1,0 +1,204 @@
+ghost use Rattle.std.specs.Prelude.{◌≡◌, ◌≢◌, ◌⊎◌, ◌↔◌, ◌+◌, ◌%◌, ◌/◌, ◌<◌, ◌≤◌, ◌^◌, ℕ, Bool, true, false, not, [], length, replicate, slice_set, IfOk, IfNone, IfSome, if◌then◌else◌};
+ghost use Rattle.pg_agenda.specs.Shares.{NONE, AreNone, AreSame};
+ghost use Rattle.pg_agenda.specs.declared.shares.Share.{Share};
+ghost use Rattle.pg_agenda.specs.declared.shares.Share.TheVariants.{Light, Heavy, All};
+ghost use Rattle.pg_agenda.specs.LevelLists.{is_set, is_any};
+ghost use Rattle.pg_agenda.specs.BucketPhases.{bucket_of, by_bucket, ready_by, takes_by, IsLowest, next_agreement};
+ghost use Rattle.pg_agenda.specs.BucketQueues.{is_near};
+
+use crate::agreements::Agreement;
+use crate::bucket_queues::{BucketQueue, HEADS};
+use crate::place_sets::PlaceSet;
+use crate::{Agenda, Share};
+use pg_base::OutOfMemory;
+use pg_group::Vote;
+use std::alloc::{AllocError, Global};
+
+/// The buckets of delta-stepping: a place stands in the bucket `amount / delta`. The light arcs, those of at most
+/// `delta`, are relaxed from the agreed bucket until it stays empty, and then the heavy arcs of all that it held.
+///
+/// The pending places of 1,024 buckets, the window, stand in a list for each bucket, the others in one far list. `mark`
+/// and `pop` take constant time. `vote` takes a pass over the window's buckets, and one over the far list where the least
+/// bucket may be there and the far place that was known to have it has left it. `begin` takes a pass over the votes; where
+/// the agreed bucket isn't one of the window it moves the window there, in a pass over its buckets and all places that are
+/// pending for light arcs: those of the far list, where the votes have this rank's own and the bucket is a greater one.
+///
+/// Source: Meyer and Sanders, Delta-stepping: a parallelizable shortest path algorithm (Journal of Algorithms 49, 2003).
+#[derive(Drop)]
+pub struct Buckets {
+    // The places that are pending for their light arcs.
+    light: BucketQueue,
+    // The places that are pending for their heavy arcs.
+    heavy: PlaceSet,
+    agreed: Agreement,
+    delta: u32,
+    ghost divides: { 1 ≤ delta },
+    ghost same_places: { length heavy.members.items ≡ length light.buckets.items },
+    // The agreed bucket has a list of its own.
+    ghost shown: { is_near light.first agreed.bucket ≡ true },
+}
+
+impl Buckets {
+    /// Places below `count`, none of them pending, in the light phase of bucket 0. Takes all memory that the agenda needs.
+    /// More than 4,294,965,245 places are out of memory too, since the lists' heads are numbered after them.
+    pub fn new(alloc: Global, count: u32, delta: u32) -> Result<Buckets, OutOfMemory>
+        requires { 1 ≤ delta }
+        ensures count { IfOk result (λ agenda. length agenda.light.buckets.items ≡ count) }
+        ensures light { IfOk result (λ agenda. (place : ℕ) → bucket_of agenda.light.buckets.items place ≡ NONE) }
+        ensures heavy { IfOk result (λ agenda. (place : ℕ) → is_set agenda.heavy.members.items place ≡ false) }
+        ensures bucket { IfOk result (λ agenda. agenda.agreed.bucket ≡ 0) }
+        ensures phase { IfOk result (λ agenda. agenda.agreed.light ≡ true) }
+        ensures delta { IfOk result (λ agenda. agenda.delta ≡ delta) }
+    {
+        if count > u32::MAX - HEADS {
+            return Err(OutOfMemory);
+        }
+        match buckets_of(alloc, count, delta) {
+            Ok(agenda) => Ok(agenda),
+            Err(_) => Err(OutOfMemory),
+        }
+    }
+
+    // Takes a place out of the agreed bucket, if it has one. The place then is pending for its heavy arcs.
+    fn take_light(&mut self) -> Option<u32>
+        ensures none { IfNone result ((place : ℕ) → bucket_of self.old.light.buckets.items place ≢ self.old.agreed.bucket) }
+        ensures rests { IfNone result (self.new.light.buckets.items ≡ self.old.light.buckets.items) }
+        ensures rests_heavy { IfNone result (self.new.heavy.members.items ≡ self.old.heavy.members.items) }
+        ensures some { IfSome result (λ place. bucket_of self.old.light.buckets.items place ≡ self.old.agreed.bucket) }
+        ensures within { IfSome result (λ place. place < length self.old.light.buckets.items) }
+        ensures taken { IfSome result (λ place. self.new.light.buckets.items ≡ slice_set self.old.light.buckets.items place NONE) }
+        ensures heavy { IfSome result (λ place. self.new.heavy.members.items ≡ slice_set self.old.heavy.members.items place true) }
+        ensures agreed { self.new.agreed ≡ self.old.agreed }
+        ensures delta { self.new.delta ≡ self.old.delta }
+    {
+        let place = self.light.take(self.agreed.bucket)?;
+        self.heavy.add(place);
+        Some(place)
+    }
+}
+
+// The buckets of a new agenda.
+fn buckets_of(alloc: Global, count: u32, delta: u32) -> Result<Buckets, AllocError>
+    requires delta { 1 ≤ delta }
+    requires count { count + HEADS < 2 ^ 32 }
+    ensures buckets { IfOk result (λ agenda. agenda.light.buckets.items ≡ replicate count NONE) }
+    ensures heavy { IfOk result (λ agenda. agenda.heavy.members.items ≡ replicate count false) }
+    ensures bucket { IfOk result (λ agenda. agenda.agreed.bucket ≡ 0) }
+    ensures phase { IfOk result (λ agenda. agenda.agreed.light ≡ true) }
+    ensures delta { IfOk result (λ agenda. agenda.delta ≡ delta) }
+{
+    Ok(Buckets {
+        light: BucketQueue::new(alloc, count)?,
+        heavy: PlaceSet::new(alloc, count as usize)?,
+        agreed: Agreement {
+            bucket: 0,
+            light: true,
+        },
+        delta,
+    })
+}
+
+impl Agenda for Buckets {
+    ghost use Rattle.std.specs.Prelude.{length};
+    ghost use Rattle.pg_agenda.specs.BucketPhases.{by_bucket, ready_by, takes_by};
+
+    ghost count = { λ a. length a.light.buckets.items };
+
+    ghost pending = { λ a. by_bucket a.light.buckets.items a.heavy.members.items };
+
+    ghost ready = { λ a. ready_by a.agreed a.light.buckets.items a.heavy.members.items };
+
+    ghost takes = { λ a. takes_by a.delta };
+
+    fn mark(&mut self, place: u32, amount: u64)
+        requires place { place < length self.old.light.buckets.items }
+        requires amount { amount ≤ 1152921504606846976 }
+        ensures marked { (by_bucket self.new.light.buckets.items self.new.heavy.members.items All place ≡ true) ⊎ (by_bucket self.new.light.buckets.items self.new.heavy.members.items Light place ≡ true) }
+        ensures heavy { by_bucket self.new.light.buckets.items self.new.heavy.members.items Heavy place ≡ by_bucket self.old.light.buckets.items self.old.heavy.members.items Heavy place }
+        ensures others { (share : Share) (other : ℕ) → other ≢ place → by_bucket self.new.light.buckets.items self.new.heavy.members.items share other ≡ by_bucket self.old.light.buckets.items self.old.heavy.members.items share other }
+        ensures same_count { length self.new.light.buckets.items ≡ length self.old.light.buckets.items }
+        ensures same_takes { (share : Share) (w : ℕ) → takes_by self.new.delta share w ≡ takes_by self.old.delta share w }
+        ensures buckets { self.new.light.buckets.items ≡ slice_set self.old.light.buckets.items place (amount / self.old.delta) }
+        ensures same_heavy { self.new.heavy.members.items ≡ self.old.heavy.members.items }
+        ensures agreed { self.new.agreed ≡ self.old.agreed }
+        ensures delta { self.new.delta ≡ self.old.delta }
+    {
+        self.light.put(place, amount / u64::from(self.delta));
+    }
+
+    fn pop(&mut self) -> Option<(u32, Share)>
+        ensures none { IfNone result (AreNone (ready_by self.old.agreed self.old.light.buckets.items self.old.heavy.members.items)) }
+        ensures still { IfNone result (AreNone (ready_by self.new.agreed self.new.light.buckets.items self.new.heavy.members.items)) }
+        ensures ready { IfSome result (λ got. ready_by self.old.agreed self.old.light.buckets.items self.old.heavy.members.items got.1 got.0 ≡ true) }
+        ensures pending { IfSome result (λ got. by_bucket self.old.light.buckets.items self.old.heavy.members.items got.1 got.0 ≡ true) }
+        ensures within { IfSome result (λ got. got.0 < length self.old.light.buckets.items) }
+        ensures taken { IfSome result (λ got. by_bucket self.new.light.buckets.items self.new.heavy.members.items got.1 got.0 ≡ false) }
+        ensures heavy { IfSome result (λ got. got.1 ≡ Light → by_bucket self.new.light.buckets.items self.new.heavy.members.items Heavy got.0 ≡ true) }
+        ensures shares { IfSome result (λ got. (share : Share) → share ≢ got.1 → (got.1 ≡ Light → share ≢ Heavy) → by_bucket self.new.light.buckets.items self.new.heavy.members.items share got.0 ≡ by_bucket self.old.light.buckets.items self.old.heavy.members.items share got.0) }
+        ensures others { IfSome result (λ got. (share : Share) (other : ℕ) → other ≢ got.0 → by_bucket self.new.light.buckets.items self.new.heavy.members.items share other ≡ by_bucket self.old.light.buckets.items self.old.heavy.members.items share other) }
+        ensures rests { IfNone result (AreSame (by_bucket self.old.light.buckets.items self.old.heavy.members.items) (by_bucket self.new.light.buckets.items self.new.heavy.members.items)) }
+        ensures whole { (w : ℕ) → takes_by self.old.delta All w ≡ true }
+        ensures halves { (w : ℕ) → (takes_by self.old.delta Light w ≡ true) ⊎ (takes_by self.old.delta Heavy w ≡ true) }
+        ensures same_count { length self.new.light.buckets.items ≡ length self.old.light.buckets.items }
+        ensures same_takes { (share : Share) (w : ℕ) → takes_by self.new.delta share w ≡ takes_by self.old.delta share w }
+        ensures same_buckets { IfNone result (self.new.light.buckets.items ≡ self.old.light.buckets.items) }
+        ensures same_heavy { IfNone result (self.new.heavy.members.items ≡ self.old.heavy.members.items) }
+        ensures buckets { IfSome result (λ got. self.new.light.buckets.items ≡ (if self.old.agreed.light then slice_set self.old.light.buckets.items got.0 NONE else self.old.light.buckets.items)) }
+        ensures flags { IfSome result (λ got. self.new.heavy.members.items ≡ slice_set self.old.heavy.members.items got.0 self.old.agreed.light) }
+        ensures agreed { self.new.agreed ≡ self.old.agreed }
+        ensures delta { self.new.delta ≡ self.old.delta }
+    {
+        if self.agreed.light {
+            let place = self.take_light()?;
+            Some((place, Share::Light))
+        } else {
+            let place = self.heavy.take()?;
+            Some((place, Share::Heavy))
+        }
+    }
+
+    fn takes(&self, share: Share, w: u32) -> bool {
+        match share {
+            Share::Light => w <= self.delta,
+            Share::Heavy => w > self.delta,
+            Share::All => true,
+        }
+    }
+
+    fn vote(&mut self, sent: bool) -> Vote
+        ensures odd { (result.b % 2 ≡ 1) ↔ (sent ≡ true) }
+        ensures none { result.a ≡ NONE → result.b < 2 → AreNone (by_bucket self.old.light.buckets.items self.old.heavy.members.items) }
+        ensures c { result.c ≡ 0 }
+        ensures d { result.d ≡ 0 }
+        ensures rests { AreSame (by_bucket self.old.light.buckets.items self.old.heavy.members.items) (by_bucket self.new.light.buckets.items self.new.heavy.members.items) }
+        ensures same_count { length self.new.light.buckets.items ≡ length self.old.light.buckets.items }
+        ensures same_takes { (share : Share) (w : ℕ) → takes_by self.new.delta share w ≡ takes_by self.old.delta share w }
+        ensures lowest { IsLowest self.old.light.buckets.items result.a }
+        ensures told { result.b ≡ (if sent then 1 else 0) + (if is_any self.old.heavy.members.items then 2 else 0) }
+        ensures same_buckets { self.new.light.buckets.items ≡ self.old.light.buckets.items }
+        ensures same_heavy { self.new.heavy.members.items ≡ self.old.heavy.members.items }
+        ensures agreed { self.new.agreed ≡ self.old.agreed }
+        ensures delta { self.new.delta ≡ self.old.delta }
+    {
+        let heavy = if self.heavy.is_empty() { 0 } else { 2 };
+        Vote {
+            a: self.light.least_bucket(),
+            b: u64::from(sent) + heavy,
+            c: 0,
+            d: 0,
+        }
+    }
+
+    fn begin(&mut self, votes: &[Vote])
+        ensures rests { AreSame (by_bucket self.old.light.buckets.items self.old.heavy.members.items) (by_bucket self.new.light.buckets.items self.new.heavy.members.items) }
+        ensures same_count { length self.new.light.buckets.items ≡ length self.old.light.buckets.items }
+        ensures same_takes { (share : Share) (w : ℕ) → takes_by self.new.delta share w ≡ takes_by self.old.delta share w }
+        ensures agreed { self.new.agreed ≡ next_agreement votes.now self.old.agreed }
+        ensures same_buckets { self.new.light.buckets.items ≡ self.old.light.buckets.items }
+        ensures same_heavy { self.new.heavy.members.items ≡ self.old.heavy.members.items }
+        ensures delta { self.new.delta ≡ self.old.delta }
+    {
+        self.agreed = self.agreed.after(votes);
+        self.light.show(self.agreed.bucket);
+    }
+}

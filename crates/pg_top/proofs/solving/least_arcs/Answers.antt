@@ -1,0 +1,26 @@
+use Rattle.pg_base.specs.Distances.{AreLeastArcs}
+use Rattle.pg_label.specs.declared.labels.Hops.{Hops}
+use Rattle.pg_top.specs.declared.columns.Field.TheVariants.{Amount}
+use Rattle.pg_top.specs.Work.{IsCarried, IsRelaxedBy}
+use Rattle.std.specs.Option.{option_map}
+use Rattle.pg_top.proofs.Outcomes.{ok_then}
+use Rattle.pg_top.proofs.RightLemmas.{arcs_are_least}
+use Rattle.pg_top.proofs.solving.least_arcs.Goals as goal
+
+pub returns-clause-carried : goal.returns-clause-carried
+returns-clause-carried g c =
+    let source : Hops = record { source = c.args.source } in
+    let owners = option_map (λ owners. owners.items) c.args.input.owners in
+    ok_then c.relax_input.result
+    (λ r. IsRelaxedBy source Amount owners c.args.crew.now.ranks c.args.crew.now.capacity c.args.input.graph r.answers.of_vertices.items r.finished.programs.items r.finished.lanes.items)
+    (λ r. IsCarried source Amount owners c.args.crew.now.ranks c.args.crew.now.capacity c.args.input.graph r.answers.of_vertices.items r.finished.programs.items r.finished.lanes.items) c.relax_input.ensures
+    (λ r relaxed. (arcs_are_least owners c.args.crew.now.ranks c.args.crew.now.capacity c.args.input.graph c.n-n.ensures.graph r.answers.of_vertices.items r.finished.lanes.items source r.finished.programs.items relaxed).0)
+
+pub returns-clause-least : goal.returns-clause-least
+returns-clause-least g c =
+    let source : Hops = record { source = c.args.source } in
+    let owners = option_map (λ owners. owners.items) c.args.input.owners in
+    ok_then c.relax_input.result
+    (λ r. IsRelaxedBy source Amount owners c.args.crew.now.ranks c.args.crew.now.capacity c.args.input.graph r.answers.of_vertices.items r.finished.programs.items r.finished.lanes.items)
+    (λ r. AreLeastArcs c.args.input.graph c.args.source r.answers.of_vertices.items) c.relax_input.ensures
+    (λ r relaxed. (arcs_are_least owners c.args.crew.now.ranks c.args.crew.now.capacity c.args.input.graph c.n-n.ensures.graph r.answers.of_vertices.items r.finished.lanes.items source r.finished.programs.items relaxed).1)

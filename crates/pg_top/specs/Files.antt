@@ -1,0 +1,58 @@
+-- What the files of a plan say: its graph, and the owners of the vertices where it names a partition file.
+use Rattle.std.specs.Prelude.{◌≡◌, ℕ, ◌⊎◌, ⊤, Option, Some, None, List, []}
+use Rattle.pg_base.specs.Graph.{Graph}
+use Rattle.pg_outside.specs.Files.{NamedBytes, contents_of, IsMissing}
+use Rattle.pg_metis.specs.File.{FileOf}
+use Rattle.pg_metis.specs.Parts.{PartsOf}
+use Rattle.pg_words.specs.Plan.{Meaning}
+
+-- Where the files are told, one has this name, and P holds of its contents.
+abbrev pub FileHolds : List ℕ → Option (List NamedBytes) → (List ℕ → Type 0) → Type 0
+FileHolds name None P = ⊤
+FileHolds name (Some files) P = (text : List ℕ) × (contents_of name files ≡ Some text) × P text
+
+-- The text is a file of a graph of which P holds.
+abbrev pub IsFileOf : (Graph → Type 0) → List ℕ → Type 0
+IsFileOf P text = (g : Graph) × FileOf text g × P g
+
+-- The text lists the owners of n vertices, and P holds of the list.
+abbrev pub IsListOf : ℕ → ℕ → (List ℕ → Type 0) → List ℕ → Type 0
+IsListOf n ranks P text = (owners : List ℕ) × PartsOf text n ranks owners × P owners
+
+-- A partition file is named, and P holds of its contents.
+abbrev pub PartsHold : Option (List ℕ) → Option (List NamedBytes) → (List ℕ → Type 0) → Type 0
+PartsHold None files P = ⊥
+PartsHold (Some name) files P = FileHolds name files P
+
+-- P holds of the owners that the partition file lists for n vertices, or of no list where no such file is named.
+abbrev pub HasOwners : Option (List ℕ) → Option (List NamedBytes) → ℕ → ℕ → (Option (List ℕ) → Type 0) → Type 0
+HasOwners None files n ranks P = P None
+HasOwners (Some name) files n ranks P = FileHolds name files (IsListOf n ranks (λ owners. P (Some owners)))
+
+-- P holds of the plan's graph, and of the owners where the plan names a partition file.
+abbrev pub HasInput : Meaning → Option (List NamedBytes) → (Graph → Option (List ℕ) → Type 0) → Type 0
+HasInput plan files P = FileHolds plan.file files (IsFileOf (λ g. HasOwners plan.parts files g.n plan.ranks (P g)))
+
+-- A partition file is named, and no file has its name.
+abbrev pub IsMissingParts : Option (List ℕ) → Option (List NamedBytes) → Type 0
+IsMissingParts None files = ⊥
+IsMissingParts (Some name) files = IsMissing name files
+
+-- The graph file is missing; or it is one of a graph, and a partition file that is named is missing.
+abbrev pub MissesFile : Meaning → Option (List NamedBytes) → Type 0
+MissesFile plan files = IsMissing plan.file files ⊎ (IsMissingParts plan.parts files × FileHolds plan.file files (IsFileOf (λ g. ⊤)))
+
+-- The contents of a name, where they are told.
+abbrev pub told : List ℕ → Option (List NamedBytes) → Option (List ℕ)
+told name None = None
+told name (Some files) = contents_of name files
+
+-- The files tell a list of owners for n vertices, where a partition file is named.
+abbrev pub TellsOwners : Option (List ℕ) → Option (List NamedBytes) → ℕ → ℕ → Type 0
+TellsOwners None files n ranks = ⊤
+TellsOwners (Some name) files n ranks = (text : List ℕ) × (told name files ≡ Some text) × IsListOf n ranks (λ owners. ⊤) text
+
+-- Where the files are told, no byte is left of the one that was begun last.
+abbrev pub IsReadToEnd : Option (List NamedBytes) → Option (List ℕ) → Type 0
+IsReadToEnd None left = ⊤
+IsReadToEnd (Some files) left = left ≡ Some []

@@ -1,0 +1,125 @@
+//! What the files of a plan say: its graph, and the owners of the vertices.
+ghost use Rattle.std.specs.Prelude.{◌≡◌, ◌<◌, ◌≤◌, All, IfOk, IfErr, OnOk, true, false, vec_len};
+ghost use Rattle.std.specs.Option.{ForSome, option_map};
+ghost use Rattle.pg_metis.specs.File.{FileOf};
+ghost use Rattle.pg_metis.specs.Parts.{PartsOf};
+ghost use Rattle.pg_words.specs.Plan.{meaning_of};
+ghost use Rattle.pg_top.specs.Files.{FileHolds, HasInput, HasOwners, IsReadToEnd};
+ghost use Rattle.pg_top.specs.Run.{InputFails, IsOutside, LoadFails, OwnersFail, PartsFail};
+ghost use Rattle.pg_top.specs.Text.{IsInside};
+
+use crate::{Algorithm, Plan};
+use pg_base::{EdgeList, Ranks};
+use pg_metis::{read_graph, read_parts};
+use pg_outside::Inputs;
+use pg_print::Fault;
+use std::alloc::Global;
+
+/// A plan's graph, and the owners of its vertices where the plan names a partition file.
+#[derive(Drop)]
+pub(crate) struct Input {
+    pub(crate) graph: EdgeList,
+    /// Entry v - 1 is the rank that owns vertex v.
+    pub(crate) owners: Option<Vec<u32>>,
+}
+
+/// The graph of the file of this name.
+fn load_graph<I: Inputs>(alloc: Global, inputs: &mut I, name: &str) -> Result<EdgeList, Fault>
+    ensures loaded { IfOk result (λ g. FileHolds name.now (I.files inputs.old) (λ text. FileOf text g)) }
+    ensures end { OnOk result (IsReadToEnd (I.files inputs.old) (I.left inputs.new)) }
+    ensures fails { IfErr result (LoadFails name.now (I.files inputs.old) (I.faults inputs.old) (I.faults inputs.new)) }
+    ensures later { I.faults inputs.old ≤ I.faults inputs.new }
+    ensures files { I.files inputs.new ≡ I.files inputs.old }
+{
+    if inputs.begin(name).is_err() {
+        return Err(Fault::Read);
+    }
+    Ok(read_graph(alloc, inputs)?)
+}
+
+/// The owners of `n` vertices that the partition file of this name lists.
+fn load_owners<I: Inputs>(
+    alloc: Global,
+    inputs: &mut I,
+    name: &str,
+    n: u32,
+    ranks: Ranks,
+) -> Result<Vec<u32>, Fault>
+    ensures loaded { IfOk result (λ owners. FileHolds name.now (I.files inputs.old) (λ text. PartsOf text n ranks owners.items)) }
+    ensures count { IfOk result (λ owners. vec_len owners ≡ n) }
+    ensures below { IfOk result (λ owners. All (λ owner. owner < ranks) owners.items) }
+    ensures end { OnOk result (IsReadToEnd (I.files inputs.old) (I.left inputs.new)) }
+    ensures fails { IfErr result (OwnersFail name.now n ranks (I.files inputs.old) (I.faults inputs.old) (I.faults inputs.new)) }
+    ensures later { I.faults inputs.old ≤ I.faults inputs.new }
+    ensures files { I.files inputs.new ≡ I.files inputs.old }
+{
+    if inputs.begin(name).is_err() {
+        return Err(Fault::Read);
+    }
+    Ok(read_parts(alloc, inputs, n, ranks)?)
+}
+
+/// The owners of `n` vertices, where the plan names a partition file.
+fn owners_of<I: Inputs>(
+    alloc: Global,
+    inputs: &mut I,
+    plan: &Plan,
+    n: u32,
+    ranks: Ranks,
+) -> Result<Option<Vec<u32>>, Fault>
+    ensures has { IfOk result (λ found. HasOwners (meaning_of plan.now).parts (I.files inputs.old) n ranks (λ owners. owners ≡ option_map (λ o. o.items) found)) }
+    ensures count { IfOk result (λ found. ForSome found (λ owners. vec_len owners ≡ n)) }
+    ensures below { IfOk result (λ found. ForSome found (λ owners. All (λ owner. owner < ranks) owners.items)) }
+    ensures end { OnOk result (IsReadToEnd (I.files inputs.old) (I.left inputs.old) → IsReadToEnd (I.files inputs.old) (I.left inputs.new)) }
+    ensures fails { IfErr result (PartsFail (meaning_of plan.now).parts n ranks (I.files inputs.old) (I.faults inputs.old) (I.faults inputs.new)) }
+    ensures later { I.faults inputs.old ≤ I.faults inputs.new }
+    ensures files { I.files inputs.new ≡ I.files inputs.old }
+{
+    match &plan.parts {
+        Some(name) => match load_owners(alloc, inputs, name.as_str(), n, ranks) {
+            Ok(owners) => Ok(Some(owners)),
+            Err(fault) => Err(fault),
+        },
+        None => Ok(None),
+    }
+}
+
+/// Whether the plan's algorithm has a source, and it is none of the vertices from 1 to `n`.
+fn is_outside(plan: &Plan, n: u32) -> bool
+    ensures outside { result ≡ true → IsOutside (meaning_of plan.now) n }
+    ensures inside { result ≡ false → IsInside plan.now.algorithm plan.now.source n }
+{
+    match plan.algorithm {
+        Algorithm::Bfs | Algorithm::Sssp => plan.source == 0 || plan.source > n,
+        _ => false,
+    }
+}
+
+/// Reads the plan's graph and then its partition file, if it names one. The source is looked at last.
+pub(crate) fn read_input<I: Inputs>(
+    alloc: Global,
+    inputs: &mut I,
+    plan: &Plan,
+    ranks: Ranks,
+) -> Result<Input, Fault>
+    requires { ranks ≡ plan.now.ranks }
+    ensures has { IfOk result (λ input. HasInput (meaning_of plan.now) (I.files inputs.old)
+        (λ g owners. (g ≡ input.graph) × (owners ≡ option_map (λ o. o.items) input.owners))) }
+    ensures inside { IfOk result (λ input. IsInside plan.now.algorithm plan.now.source input.graph.n) }
+    ensures count { IfOk result (λ input. ForSome input.owners (λ owners. vec_len owners ≡ input.graph.n)) }
+    ensures below { IfOk result (λ input. ForSome input.owners (λ owners. All (λ owner. owner < ranks) owners.items)) }
+    ensures end { OnOk result (IsReadToEnd (I.files inputs.old) (I.left inputs.new)) }
+    ensures fails { IfErr result (InputFails (meaning_of plan.now) (I.files inputs.old) (I.faults inputs.old) (I.faults inputs.new)) }
+    ensures later { I.faults inputs.old ≤ I.faults inputs.new }
+    ensures files { I.files inputs.new ≡ I.files inputs.old }
+{
+    let graph = load_graph(alloc, inputs, plan.file.as_str())?;
+    let n = graph.n();
+    let owners = owners_of(alloc, inputs, plan, n, ranks)?;
+    if is_outside(plan, n) {
+        return Err(Fault::Source {
+            source: plan.source,
+        });
+    }
+    Ok(Input { graph, owners })
+}
