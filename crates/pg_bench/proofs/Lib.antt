@@ -1,3 +1,6 @@
+mod CountedItems
 mod Known
+mod Mapped
 mod Others
+mod Sending
 mod Sums

@@ -46,6 +46,17 @@ pub fn cell_count(parts: &[Part]) -> u64
     count
 }
 
+/// How many ghosts these parts have together.
+pub fn ghost_count(parts: &[Part]) -> u64
+    ensures { result ≡ capped (sum_by (λ p. length p.ghosts) parts.now) }
+{
+    let mut count = 0u64;
+    for part in parts {
+        count = count.saturating_add(part.ghosts().len() as u64);
+    }
+    count
+}
+
 // How many arcs the places of a part have.
 fn arc_count(part: &Part) -> u64
     ensures { result ≡ capped (arcs_in part.now) }

@@ -43,7 +43,7 @@ fn rolls(alloc: Global, ranks: Ranks, rounds: u32) -> Result<Vec<Roll>, OutOfMem
 }
 
 /// How many messages, marks among them, were sent down these lanes, modulo 2^64.
-pub fn message_count(lanes: &[Settled<Envelope<u32>>]) -> u64
+pub fn message_count<B>(lanes: &[Settled<Envelope<B>>]) -> u64
     ensures { result ≡ sum_by sent_down lanes.now % 2 ^ 64 }
 {
     let mut count = 0u64;

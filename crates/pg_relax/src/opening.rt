@@ -1,7 +1,8 @@
 //! New relaxations, and their values.
 ghost use Rattle.std.specs.Prelude.{◌≡◌, ◌<◌, ℕ, Some, None, length, IfOk, IfSome};
 ghost use Rattle.pg_label.specs.Values.{IsWithin, start_value};
-ghost use Rattle.pg_agenda.specs.Shares.{AreNone};
+ghost use Rattle.pg_agenda.specs.declared.shares.Share.{Share};
+ghost use Rattle.pg_agenda.specs.Shares.{AreNone, AreSame};
 ghost use Rattle.pg_relax.specs.Frontiers.{IsLowered};
 ghost use Rattle.pg_relax.specs.Kept.{IsOpenBelow, IsOpening};
 ghost use Rattle.pg_relax.specs.Shown.{IsNewRelax, label_in, part_in, state_of};
@@ -29,6 +30,7 @@ impl<L: Label + Drop, A: Agenda + Drop> Relax<L, A> {
         ensures new { IfOk result (λ r. IsNewRelax r) }
         ensures part { IfOk result (λ r. part_in r ≡ part) }
         ensures label { IfOk result (λ r. label_in r ≡ label) }
+        ensures takes { IfOk result (λ r. (share : Share) (w : ℕ) → (state_of r).takes share w ≡ A.takes agenda share w) }
     {
         let Ok(table) = Table::new(alloc, part.count() as usize) else {
             return Err(OutOfMemory);
@@ -60,6 +62,7 @@ fn open<L: Label, A: Agenda>(part: &Part, label: &L, frontier: &mut Frontier<A>)
     requires none { IsOpenBelow 0 (label_of (L.start label.now) (L.add label.now)) part.now frontier.old.table.values.items (A.pending frontier.old.agenda) }
     ensures opening { IsOpening (label_of (L.start label.now) (L.add label.now)) part.now frontier.new.table.values.items (A.pending frontier.new.agenda) }
     ensures same_count { length frontier.new.table.values.items ≡ length frontier.old.table.values.items }
+    ensures same_takes { AreSame (A.takes frontier.old.agenda) (A.takes frontier.new.agenda) }
 {
     let count = part.count();
     for place in 0..count {
@@ -74,6 +77,7 @@ fn open_place<L: Label, A: Agenda>(label: &L, frontier: &mut Frontier<A>, place:
         → IsLowered place (start_value class) frontier.old.table.values.items (A.pending frontier.old.agenda) frontier.new.table.values.items (A.pending frontier.new.agenda) }
     ensures stays { L.start label.now v.0 ≡ None → frontier.new ≡ frontier.old }
     ensures same_count { length frontier.new.table.values.items ≡ length frontier.old.table.values.items }
+    ensures same_takes { AreSame (A.takes frontier.old.agenda) (A.takes frontier.new.agenda) }
 {
     if let Some(class) = label.start(v) {
         let start = Value {

@@ -13,6 +13,7 @@ use Rattle.pg_dist.specs.Sharing.{Sharing, IsSharing}
 use Rattle.pg_adj.specs.Portions.{Portion}
 use Rattle.pg_label.specs.declared.labels.Label.{Ghosts as LabelGhosts}
 use Rattle.pg_agenda.specs.declared.agendas.Agenda.{Ghosts as AgendaGhosts}
+use Rattle.pg_agenda.specs.Shares.{Places}
 use Rattle.pg_best.specs.Best.{Best}
 use Rattle.pg_best.specs.Parts.{IsAt, IsDivided, Include, Part, local_arc}
 use Rattle.pg_best.specs.Relaxation.{IsArc}
@@ -50,15 +51,15 @@ divided_alike n ranks arcs owner place parts parts' are same d = record {
   included = λ r h. subst (λ (p : Part). Include arcs p) (same r h) (d.included r h);
 }
 
-part_stays_at : {L A : Type 0} {l : LabelGhosts L} {a : AgendaGhosts A} (label : L) (s : Sharing) (g : Graph) (capacity : ℕ) (programs : List (Relax L A l a)) (lanes : List (Settled (Envelope Offer)))
-    → (run : IsRelaxation label s g capacity programs lanes) → (r : ℕ) (p : Relax L A l a) → slice_get programs r ≡ Some p → slice_index_or run.parts r (part_in p) ≡ part_in p
+part_stays_at : {L A : Type 0} {l : LabelGhosts L} {a : AgendaGhosts A} {takes : Places} (label : L) (s : Sharing) (g : Graph) (capacity : ℕ) (programs : List (Relax L A l a)) (lanes : List (Settled (Envelope Offer)))
+    → (run : IsRelaxation label takes s g capacity programs lanes) → (r : ℕ) (p : Relax L A l a) → slice_get programs r ≡ Some p → slice_index_or run.parts r (part_in p) ≡ part_in p
 part_stays_at label s g capacity programs lanes run r p at =
     let o = entry_below run.run.openings r (omega (arith, slice_get_within programs r p at, run.run.count, run.divided.count, ap length run.run.opened, length_of_map part_in run.run.openings)) in
     let there : slice_get run.parts r ≡ Some (part_in o.0) = ap (λ l. slice_get l r) (sym run.run.opened) ∙ entry_map part_in run.run.openings r o.0 o.1 in
     got run.parts r (part_in o.0) (part_in p) there ∙ sym (run.run.kept r p at o.0 o.1).keeps.part
 
-module _ {L A : Type 0} {l : LabelGhosts L} {a : AgendaGhosts A} (label : L) (s : Sharing) (laws : IsSharing s) (g : Graph) (is : IsGraph g) (same : g.n ≡ s.n) (capacity : ℕ)
-    (programs : List (Relax L A l a)) (lanes : List (Settled (Envelope Offer))) (run : IsRelaxation label s g capacity programs lanes) (costs : All (λ (b : Arc). l.add label b.weight < 2 ^ 32) (arcs_of g.edges)) where
+module _ {L A : Type 0} {l : LabelGhosts L} {a : AgendaGhosts A} {takes : Places} (label : L) (s : Sharing) (laws : IsSharing s) (g : Graph) (is : IsGraph g) (same : g.n ≡ s.n) (capacity : ℕ)
+    (programs : List (Relax L A l a)) (lanes : List (Settled (Envelope Offer))) (run : IsRelaxation label takes s g capacity programs lanes) (costs : All (λ (b : Arc). l.add label b.weight < 2 ^ 32) (arcs_of g.edges)) where
   -- a rank's opening, and what it is now
   opening_at : (r : ℕ) (p : Relax L A l a) → slice_get programs r ≡ Some p → (start : Relax L A l a) × (slice_get run.run.openings r ≡ Some start)
   opening_at r p at = entry_below run.run.openings r (omega (arith, slice_get_within programs r p at, run.run.count, run.divided.count, ap length run.run.opened, length_of_map part_in run.run.openings))
@@ -127,8 +128,8 @@ module _ {L A : Type 0} {l : LabelGhosts L} {a : AgendaGhosts A} (label : L) (s 
       (divided_among q.0) run.run.book run.run.marks (kept_by q.0) arc x given apart (sym (value_by q.0 arc.from ends.from.first ends.from.last) ∙ has) within
 
 -- the places of a relaxation's vertices
-pub places_of : {L A : Type 0} {l : LabelGhosts L} {a : AgendaGhosts A} (label : L) (s : Sharing) (laws : IsSharing s) (g : Graph) (capacity : ℕ)
-    (programs : List (Relax L A l a)) (lanes : List (Settled (Envelope Offer))) → IsRelaxation label s g capacity programs lanes → HavePlaces s programs
+pub places_of : {L A : Type 0} {l : LabelGhosts L} {a : AgendaGhosts A} {takes : Places} (label : L) (s : Sharing) (laws : IsSharing s) (g : Graph) (capacity : ℕ)
+    (programs : List (Relax L A l a)) (lanes : List (Settled (Envelope Offer))) → IsRelaxation label takes s g capacity programs lanes → HavePlaces s programs
 places_of label s laws g capacity programs lanes run v p first last at =
     let h = laws.owner_is_rank v first last in
     let stays : slice_index_or run.parts (s.owner v) (part_in p) ≡ part_in p = part_stays_at label s g capacity programs lanes run (s.owner v) p at in
@@ -144,8 +145,8 @@ divided_in_order s g parts d k p at =
     (ap (λ (q : Portion). q.rank) (sym same) ∙ part.rank, ap (λ (q : Portion). q.ranks) (sym same) ∙ (part.ranks ∙ sym d.count))
 
 -- The numbers that are answered are those of the best values.
-module _ {L A : Type 0} {l : LabelGhosts L} {a : AgendaGhosts A} (label : L) (field : Field) (s : Sharing) (laws : IsSharing s) (g : Graph) (is : IsGraph g) (same : g.n ≡ s.n) (capacity : ℕ)
-    (programs : List (Relax L A l a)) (lanes : List (Settled (Envelope Offer))) (run : IsRelaxation label s g capacity programs lanes) (costs : All (λ (b : Arc). l.add label b.weight < 2 ^ 32) (arcs_of g.edges))
+module _ {L A : Type 0} {l : LabelGhosts L} {a : AgendaGhosts A} {takes : Places} (label : L) (field : Field) (s : Sharing) (laws : IsSharing s) (g : Graph) (is : IsGraph g) (same : g.n ≡ s.n) (capacity : ℕ)
+    (programs : List (Relax L A l a)) (lanes : List (Settled (Envelope Offer))) (run : IsRelaxation label takes s g capacity programs lanes) (costs : All (λ (b : Arc). l.add label b.weight < 2 ^ 32) (arcs_of g.edges))
     (answers : List (Option ℕ)) (are : AreAnswers field s programs answers) where
   pub answered : (v : ℕ) → v < g.n → (value : Option Value) × Best (label_of (l.start label) (l.add label)) (arcs_of g.edges) (v + 1) value × (slice_index_or answers v None ≡ field_in field value)
   answered v h =

@@ -1,5 +1,5 @@
 -- The answers of a relaxation are what its label makes them: least numbers of arcs, least weights, lowest vertices.
-use Rattle.std.proofs.Common.{◌≡◌, ℕ, ◌+◌, ◌^◌, ◌<◌, ◌≤◌, List, length, sym, ap, ◌∙◌, subst, arith, Option, Some, None, All}
+use Rattle.std.proofs.Common.{◌≡◌, ℕ, ◌+◌, ◌^◌, ◌<◌, ◌≤◌, List, length, refl, sym, ap, ◌∙◌, subst, arith, Option, Some, None, All}
 use Rattle.std.specs.Prelude.{slice_index_or}
 use Rattle.pg_base.specs.declared.edges.Edge.{Edge}
 use Rattle.pg_base.specs.Graph.{Graph, IsGraph, Arc, arcs_of}
@@ -7,6 +7,7 @@ use Rattle.pg_base.specs.Walk.{LeastArcs, LeastWeight}
 use Rattle.pg_base.specs.Distances.{AreLeastArcs}
 use Rattle.pg_group.specs.declared.messages.Envelope.{Envelope}
 use Rattle.pg_lane.specs.declared.settling.Settled.{Settled}
+use Rattle.pg_print.specs.Columns.{column_text}
 use Rattle.pg_dist.specs.Sharing.{Sharing}
 use Rattle.pg_label.specs.declared.values.Value.{Value}
 use Rattle.pg_label.specs.declared.labels.Label.{Ghosts as LabelGhosts}
@@ -17,6 +18,7 @@ use Rattle.pg_label.specs.contracts.labels.HopsLabel.TheImpl.{ghosts as hops}
 use Rattle.pg_label.specs.contracts.labels.WeightLabel.TheImpl.{ghosts as weights}
 use Rattle.pg_label.specs.contracts.labels.RootLabel.TheImpl.{ghosts as roots}
 use Rattle.pg_agenda.specs.declared.agendas.Agenda.{Ghosts as AgendaGhosts}
+use Rattle.pg_agenda.specs.Shares.{Places}
 use Rattle.pg_best.specs.declared.offers.Offer.{Offer}
 use Rattle.pg_best.specs.Best.{Best}
 use Rattle.pg_best.specs.Relaxed.{Relaxed}
@@ -29,7 +31,7 @@ use Rattle.pg_top.specs.declared.columns.Field.TheVariants.{Amount, Class}
 use Rattle.pg_top.specs.Distributions.{IsDistribution}
 use Rattle.pg_top.specs.Relaxed.{class_in, field_in, value_of}
 use Rattle.pg_top.specs.Text.{AreLeastWeights, AreLowest, IsRootOf}
-use Rattle.pg_top.specs.Work.{IsCarried, IsRelaxedBy}
+use Rattle.pg_top.specs.Work.{IsCarried, IsRelaxedBy, SpellsAnswers}
 use Rattle.pg_top.proofs.BestLemmas.{answered, arcs_fit, lanes_are_relaxed}
 
 distribution_n : (owners : Option (List ℕ)) (n ranks : ℕ) (s : Sharing) → IsDistribution owners n ranks s → s.n ≡ n
@@ -40,8 +42,8 @@ distribution_ranks : (owners : Option (List ℕ)) (n ranks : ℕ) (s : Sharing) 
 distribution_ranks None n ranks s d = d.group
 distribution_ranks (Some list) n ranks s d = d.group
 
-module _ {L A : Type 0} {l : LabelGhosts L} {a : AgendaGhosts A} (label : L) (field : Field) (owners : Option (List ℕ)) (ranks capacity : ℕ) (g : Graph) (is : IsGraph g) (answers : List (Option ℕ))
-    (programs : List (Relax L A l a)) (lanes : List (Settled (Envelope Offer))) (r : IsRelaxedBy label field owners ranks capacity g answers programs lanes)
+module _ {L A : Type 0} {l : LabelGhosts L} {a : AgendaGhosts A} {takes : Places} (label : L) (field : Field) (owners : Option (List ℕ)) (ranks capacity : ℕ) (g : Graph) (is : IsGraph g) (answers : List (Option ℕ))
+    (programs : List (Relax L A l a)) (lanes : List (Settled (Envelope Offer))) (r : IsRelaxedBy label takes field owners ranks capacity g answers programs lanes)
     (costs : All (λ (b : Arc). l.add label b.weight < 2 ^ 32) (arcs_of g.edges)) where
   each_vertex : length answers ≡ g.n
   each_vertex = r.held.count ∙ distribution_n owners g.n ranks r.sharing r.distribution
@@ -50,15 +52,15 @@ module _ {L A : Type 0} {l : LabelGhosts L} {a : AgendaGhosts A} (label : L) (fi
   best_answer v h = answered label field r.sharing r.laws g is (sym (distribution_n owners g.n ranks r.sharing r.distribution)) capacity programs lanes r.relaxation costs answers r.held v h
 
   -- The lanes are relaxed.
-  carried : IsCarried label field owners ranks capacity g answers programs lanes
+  carried : IsCarried label takes field owners ranks capacity g answers programs lanes
   carried = record {
     run = r;
     relaxed = subst (λ n. Relaxed (label_of (l.start label) (l.add label)) (arcs_of g.edges) r.sharing.owner r.sharing.local (value_of r.sharing programs) (sent_on n lanes)) (distribution_ranks owners g.n ranks r.sharing r.distribution)
         (lanes_are_relaxed label r.sharing r.laws g is (sym (distribution_n owners g.n ranks r.sharing r.distribution)) capacity programs lanes r.relaxation costs);
   }
 
-module _ {A : Type 0} {a : AgendaGhosts A} (owners : Option (List ℕ)) (ranks capacity : ℕ) (g : Graph) (is : IsGraph g) (answers : List (Option ℕ)) (lanes : List (Settled (Envelope Offer))) where
-  pub arcs_are_least : (source : Hops) (programs : List (Relax Hops A hops a)) → IsRelaxedBy source Amount owners ranks capacity g answers programs lanes → IsCarried source Amount owners ranks capacity g answers programs lanes × AreLeastArcs g source.source answers
+module _ {A : Type 0} {a : AgendaGhosts A} {takes : Places} (owners : Option (List ℕ)) (ranks capacity : ℕ) (g : Graph) (is : IsGraph g) (answers : List (Option ℕ)) (lanes : List (Settled (Envelope Offer))) where
+  pub arcs_are_least : (source : Hops) (programs : List (Relax Hops A hops a)) → IsRelaxedBy source takes Amount owners ranks capacity g answers programs lanes → IsCarried source takes Amount owners ranks capacity g answers programs lanes × AreLeastArcs g source.source answers
   arcs_are_least source programs r =
       let cheap : All (λ (b : Arc). 1 < 2 ^ 32) (arcs_of g.edges) = λ k d h. omega arith in (
         carried source Amount owners ranks capacity g is answers programs lanes r cheap,
@@ -70,8 +72,8 @@ module _ {A : Type 0} {a : AgendaGhosts A} (owners : Option (List ℕ)) (ranks c
         },
       )
 
-  pub weights_are_right : (source : Weight) (programs : List (Relax Weight A weights a)) → IsRelaxedBy source Amount owners ranks capacity g answers programs lanes
-      → (most : ℕ) → most < 2 ^ 32 → All (λ (e : Edge). e.w ≤ most) g.edges → IsCarried source Amount owners ranks capacity g answers programs lanes × AreLeastWeights g source.source answers
+  pub weights_are_right : (source : Weight) (programs : List (Relax Weight A weights a)) → IsRelaxedBy source takes Amount owners ranks capacity g answers programs lanes
+      → (most : ℕ) → most < 2 ^ 32 → All (λ (e : Edge). e.w ≤ most) g.edges → IsCarried source takes Amount owners ranks capacity g answers programs lanes × AreLeastWeights g source.source answers
   weights_are_right source programs r most fits each =
       let bounded : All (λ (e : Edge). e.w < 2 ^ 32) g.edges = λ k d h. omega (arith, each k d h, fits) in
       let costs : All (λ (b : Arc). b.weight < 2 ^ 32) (arcs_of g.edges) = arcs_fit g.edges bounded in (
@@ -84,7 +86,7 @@ module _ {A : Type 0} {a : AgendaGhosts A} (owners : Option (List ℕ)) (ranks c
         },
       )
 
-  pub roots_are_right : (label : Root) (programs : List (Relax Root A roots a)) → IsRelaxedBy label Class owners ranks capacity g answers programs lanes → IsCarried label Class owners ranks capacity g answers programs lanes × AreLowest g answers
+  pub roots_are_right : (label : Root) (programs : List (Relax Root A roots a)) → IsRelaxedBy label takes Class owners ranks capacity g answers programs lanes → IsCarried label takes Class owners ranks capacity g answers programs lanes × AreLowest g answers
   roots_are_right label programs r =
       let cheap : All (λ (b : Arc). 1 < 2 ^ 32) (arcs_of g.edges) = λ k d h. omega arith in (
         carried label Class owners ranks capacity g is answers programs lanes r cheap,
@@ -96,3 +98,14 @@ module _ {A : Type 0} {a : AgendaGhosts A} (owners : Option (List ℕ)) (ranks c
               subst (IsRootOf g (v + 1)) (sym (b.2 ∙ ap class_in x.1)) x.2;
         },
       )
+
+-- What was carried on a crew's ranks and lanes is spelled for a plan of as many and of this capacity.
+pub spelled_for : {L A : Type 0} {l : LabelGhosts L} {a : AgendaGhosts A} {takes : Places} (label : L) (field : Field) (owners : Option (List ℕ)) (n ranks m capacity : ℕ) (g : Graph) (answers : List (Option ℕ))
+    (programs : List (Relax L A l a)) (lanes : List (Settled (Envelope Offer))) → n ≡ ranks → m ≡ capacity → IsCarried label takes field owners n m g answers programs lanes
+    → SpellsAnswers label takes field owners ranks capacity g (column_text answers) programs lanes
+spelled_for {takes = takes} label field owners n ranks m capacity g answers programs lanes same_ranks same_capacity carried = record {
+  answers = answers;
+  carried = subst (λ k. IsCarried label takes field owners k capacity g answers programs lanes) same_ranks
+      (subst (λ k. IsCarried label takes field owners n k g answers programs lanes) same_capacity carried);
+  spelled = refl;
+}

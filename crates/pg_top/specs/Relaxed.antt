@@ -17,6 +17,8 @@ use Rattle.pg_group.specs.Ranked.{IsOther, list_at}
 use Rattle.pg_run.specs.Lanes.{AreWhole, EachLane, sent_on, taken_on}
 use Rattle.pg_label.specs.declared.labels.Label.{Ghosts as LabelGhosts}
 use Rattle.pg_agenda.specs.declared.agendas.Agenda.{Ghosts as AgendaGhosts}
+use Rattle.pg_agenda.specs.declared.shares.Share.{Share}
+use Rattle.pg_agenda.specs.Shares.{Places}
 use Rattle.pg_dist.specs.Sharing.{Sharing}
 use Rattle.pg_adj.specs.Portions.{Portion}
 use Rattle.pg_adj.specs.Division.{Divided}
@@ -34,13 +36,14 @@ module _ {L A : Type 0} {l : LabelGhosts L} {a : AgendaGhosts A} where
     pub handled_is : (from : ℕ) → IsOther rank ranks from → list_at handled from ≡ taken from rank
     pub sent_is : (to : ℕ) → IsOther rank ranks to → list_at promised to ≡ sent rank to
 
-  -- A program for each part, new over it, and a lane of this capacity for each sender and receiver. All that was sent was taken, and
-  -- each program has ended and kept its promise.
-  pub record IsRunOver (label : L) (ranks : ℕ) (parts : List Portion) (capacity : ℕ) (programs : List (Relax L A l a)) (lanes : List (Settled (Envelope Offer))) : Type 0 where
+  -- A program for each part, new over it, whose agenda's shares take the arcs of these weights, and a lane of this capacity for each
+  -- sender and receiver. All that was sent was taken, and each program has ended and kept its promise.
+  pub record IsRunOver (label : L) (takes : Places) (ranks : ℕ) (parts : List Portion) (capacity : ℕ) (programs : List (Relax L A l a)) (lanes : List (Settled (Envelope Offer))) : Type 0 where
     pub openings : List (Relax L A l a)
     pub opened : map part_in openings ≡ parts
     pub new : Each (λ rank p. IsNewRelax p) openings
     pub labels : Each (λ rank p. label_in p ≡ label) openings
+    pub shares : Each (λ rank p. (share : Share) (w : ℕ) → (state_of p).takes share w ≡ takes share w) openings
     pub count : length programs ≡ ranks
     pub lane_for_each : AreWhole ranks lanes
     pub capacities : EachLane ranks lanes (λ lane. settled_capacity lane ≡ capacity)
@@ -49,10 +52,10 @@ module _ {L A : Type 0} {l : LabelGhosts L} {a : AgendaGhosts A} where
     pub kept : Each (λ rank p. (start : Relax L A l a) → slice_get openings rank ≡ Some start → HasRelaxed ranks rank (sent_on ranks lanes) (taken_on ranks lanes) start p) programs
 
   -- The same over the parts of a graph that is divided by a distribution.
-  pub record IsRelaxation (label : L) (s : Sharing) (g : Graph) (capacity : ℕ) (programs : List (Relax L A l a)) (lanes : List (Settled (Envelope Offer))) : Type 0 where
+  pub record IsRelaxation (label : L) (takes : Places) (s : Sharing) (g : Graph) (capacity : ℕ) (programs : List (Relax L A l a)) (lanes : List (Settled (Envelope Offer))) : Type 0 where
     pub parts : List Portion
     pub divided : Divided s g parts
-    pub run : IsRunOver label s.ranks parts capacity programs lanes
+    pub run : IsRunOver label takes s.ranks parts capacity programs lanes
 
 -- Each part has its rank, and there are as many as they say.
 abbrev pub AreInOrder : List Portion → Type 0

@@ -9,6 +9,8 @@ use Rattle.pg_words.specs.Plan.{Meaning}
 use Rattle.pg_words.specs.declared.plans.Algorithm.TheVariants.{Bfs, Sssp, Components}
 use Rattle.pg_label.specs.declared.labels.Label.{Ghosts as LabelGhosts}
 use Rattle.pg_agenda.specs.declared.agendas.Agenda.{Ghosts as AgendaGhosts}
+use Rattle.pg_agenda.specs.BucketPhases.{takes_by}
+use Rattle.pg_agenda.specs.Shares.{Places, takes_all}
 use Rattle.pg_dist.specs.Sharing.{Sharing, IsSharing}
 use Rattle.pg_best.specs.declared.offers.Offer.{Offer}
 use Rattle.pg_best.specs.Relaxed.{Relaxed}
@@ -25,32 +27,33 @@ use Rattle.pg_top.specs.declared.works.Work.{Work}
 use Rattle.pg_top.specs.declared.works.Work.TheVariants.{None, Hops, Weights, Roots}
 
 module _ {L A : Type 0} {l : LabelGhosts L} {a : AgendaGhosts A} where
-  -- The programs of a relaxation by this label, ended over a whole book, on so many ranks over lanes of this capacity, among which the graph
-  -- is divided by these owners or in blocks; and the answers are numbers of the values that the programs hold.
-  pub record IsRelaxedBy (label : L) (field : Field) (owners : Option (List ℕ)) (ranks capacity : ℕ) (g : Graph) (answers : List (Option ℕ)) (programs : List (Relax L A l a)) (lanes : List (Settled (Envelope Offer))) : Type 0 where
+  -- The programs of a relaxation by this label, of which each share takes the arcs of these weights, ended over a whole book, on so many ranks
+  -- over lanes of this capacity, among which the graph is divided by these owners or in blocks; and the answers are numbers of the values that
+  -- the programs hold.
+  pub record IsRelaxedBy (label : L) (takes : Places) (field : Field) (owners : Option (List ℕ)) (ranks capacity : ℕ) (g : Graph) (answers : List (Option ℕ)) (programs : List (Relax L A l a)) (lanes : List (Settled (Envelope Offer))) : Type 0 where
     pub sharing : Sharing
     pub laws : IsSharing sharing
     pub distribution : IsDistribution owners g.n ranks sharing
-    pub relaxation : IsRelaxation label sharing g capacity programs lanes
+    pub relaxation : IsRelaxation label takes sharing g capacity programs lanes
     pub held : AreAnswers field sharing programs answers
 
   -- Likewise, and the lanes carried what relaxes each arc between two ranks.
-  pub record IsCarried (label : L) (field : Field) (owners : Option (List ℕ)) (ranks capacity : ℕ) (g : Graph) (answers : List (Option ℕ)) (programs : List (Relax L A l a)) (lanes : List (Settled (Envelope Offer))) : Type 0 where
-    pub run : IsRelaxedBy label field owners ranks capacity g answers programs lanes
+  pub record IsCarried (label : L) (takes : Places) (field : Field) (owners : Option (List ℕ)) (ranks capacity : ℕ) (g : Graph) (answers : List (Option ℕ)) (programs : List (Relax L A l a)) (lanes : List (Settled (Envelope Offer))) : Type 0 where
+    pub run : IsRelaxedBy label takes field owners ranks capacity g answers programs lanes
     pub relaxed : Relaxed (label_of (l.start label) (l.add label)) (arcs_of g.edges) run.sharing.owner run.sharing.local (value_of run.sharing programs) (sent_on ranks lanes)
 
   -- The text spells the answers of such a relaxation.
-  pub record SpellsAnswers (label : L) (field : Field) (owners : Option (List ℕ)) (ranks capacity : ℕ) (g : Graph) (text : List ℕ) (programs : List (Relax L A l a)) (lanes : List (Settled (Envelope Offer))) : Type 0 where
+  pub record SpellsAnswers (label : L) (takes : Places) (field : Field) (owners : Option (List ℕ)) (ranks capacity : ℕ) (g : Graph) (text : List ℕ) (programs : List (Relax L A l a)) (lanes : List (Settled (Envelope Offer))) : Type 0 where
     pub answers : List (Option ℕ)
-    pub carried : IsCarried label field owners ranks capacity g answers programs lanes
+    pub carried : IsCarried label takes field owners ranks capacity g answers programs lanes
     pub spelled : text ≡ column_text answers
 
--- The programs and lanes of the plan's algorithm, which hold the numbers of this text.
+-- The programs and lanes of the plan's algorithm, which hold the numbers of this text. Least weights part light from heavy arcs at the plan's delta.
 abbrev pub IsWork : Meaning → Graph → Option (List ℕ) → List ℕ → Work → Type 0
 IsWork plan g owners text None = ⊥
-IsWork plan g owners text (Hops f) = plan.algorithm ≡ Bfs × SpellsAnswers (record { source = plan.source }) Amount owners plan.ranks plan.capacity g text f.programs.items f.lanes.items
-IsWork plan g owners text (Weights f) = plan.algorithm ≡ Sssp × SpellsAnswers (record { source = plan.source }) Amount owners plan.ranks plan.capacity g text f.programs.items f.lanes.items
-IsWork plan g owners text (Roots f) = plan.algorithm ≡ Components × SpellsAnswers (record {}) Class owners plan.ranks plan.capacity g text f.programs.items f.lanes.items
+IsWork plan g owners text (Hops f) = plan.algorithm ≡ Bfs × SpellsAnswers (record { source = plan.source }) takes_all Amount owners plan.ranks plan.capacity g text f.programs.items f.lanes.items
+IsWork plan g owners text (Weights f) = plan.algorithm ≡ Sssp × SpellsAnswers (record { source = plan.source }) (takes_by plan.delta) Amount owners plan.ranks plan.capacity g text f.programs.items f.lanes.items
+IsWork plan g owners text (Roots f) = plan.algorithm ≡ Components × SpellsAnswers (record {}) takes_all Class owners plan.ranks plan.capacity g text f.programs.items f.lanes.items
 
 -- P holds of a text that the plan means for the graph of its file, and the work holds its numbers.
 abbrev pub HasWork : Meaning → Option (List NamedBytes) → Work → (List ℕ → Type 0) → Type 0

@@ -1,5 +1,6 @@
 //! What a relaxation makes its ranks' agendas by.
-ghost use Rattle.std.specs.Prelude.{◌≡◌, ◌≤◌, IfOk};
+ghost use Rattle.std.specs.Prelude.{◌≡◌, ◌≤◌, ℕ, Bool, IfOk};
+ghost use Rattle.pg_agenda.specs.declared.shares.Share.{Share};
 ghost use Rattle.pg_agenda.specs.Shares.{AreNone};
 
 use pg_agenda::{Agenda, Buckets, Levels};
@@ -8,10 +9,14 @@ use std::alloc::Global;
 
 /// New agendas, one for each rank.
 pub(crate) trait Agendas<A: Agenda> {
+    /// Which share takes an arc, by its weight.
+    ghost takes: { Self → Share → ℕ → Bool };
+
     /// An agenda of this many places, none of them pending.
     fn agenda(&self, alloc: Global, count: u32) -> Result<A, OutOfMemory>
         ensures count { IfOk result (λ agenda. A.count agenda ≡ count) }
-        ensures none { IfOk result (λ agenda. AreNone (A.pending agenda)) };
+        ensures none { IfOk result (λ agenda. AreNone (A.pending agenda)) }
+        ensures takes { IfOk result (λ agenda. (share : Share) (w : ℕ) → A.takes agenda share w ≡ takes self.now share w) };
 }
 
 /// Places in the order of breadth-first search.
@@ -19,6 +24,10 @@ pub(crate) trait Agendas<A: Agenda> {
 pub(crate) struct ByLevel;
 
 impl Agendas<Levels> for ByLevel {
+    ghost use Rattle.pg_agenda.specs.Shares.{takes_all};
+
+    ghost takes = { λ _. takes_all };
+
     fn agenda(&self, alloc: Global, count: u32) -> Result<Levels, OutOfMemory> {
         Levels::new(alloc, count)
     }
@@ -32,6 +41,10 @@ pub(crate) struct ByBucket {
 }
 
 impl Agendas<Buckets> for ByBucket {
+    ghost use Rattle.pg_agenda.specs.BucketPhases.{takes_by};
+
+    ghost takes = { λ a. takes_by a.delta };
+
     fn agenda(&self, alloc: Global, count: u32) -> Result<Buckets, OutOfMemory> {
         Buckets::new(alloc, count, self.delta)
     }

@@ -1,8 +1,9 @@
 //! Relaxation over the ranks of a divided graph.
-ghost use Rattle.std.specs.Prelude.{◌≡◌, ◌≤◌, length, map, IfOk};
+ghost use Rattle.std.specs.Prelude.{◌≡◌, ◌≤◌, ℕ, length, map, IfOk};
 ghost use Rattle.pg_group.specs.Entries.{Each};
 ghost use Rattle.pg_dist.specs.Sharing.{IsSharing};
-ghost use Rattle.pg_relax.specs.Shown.{IsNewRelax, label_in, part_in};
+ghost use Rattle.pg_agenda.specs.declared.shares.Share.{Share};
+ghost use Rattle.pg_relax.specs.Shown.{IsNewRelax, label_in, part_in, state_of};
 ghost use Rattle.pg_top.specs.Relaxed.{AreAnswers, AreInOrder, HavePlaces, IsRelaxation, IsRunOver, field_in};
 
 use crate::agendas::Agendas;
@@ -30,6 +31,7 @@ fn programs_of<L: Label + Copy + Drop, A: Agenda + Drop, M: Agendas<A>>(
     ensures parts { IfOk result (λ programs. map part_in programs.items ≡ parts.items) }
     ensures new { IfOk result (λ programs. Each (λ rank p. IsNewRelax p) programs.items) }
     ensures labels { IfOk result (λ programs. Each (λ rank p. label_in p ≡ label) programs.items) }
+    ensures shares { IfOk result (λ programs. Each (λ rank p. (share : Share) (w : ℕ) → (state_of p).takes share w ≡ M.takes agendas.now share w) programs.items) }
 {
     let Ok(mut programs) = Vec::with_capacity(alloc, parts.len()) else {
         return Err(OutOfMemory);
@@ -61,7 +63,7 @@ pub(crate) fn relax_parts<
     requires at_least_one { 1 ≤ length parts.items }
     requires at_most { length parts.items ≤ 32 }
     requires order { AreInOrder parts.items }
-    ensures { IfOk result (λ f. IsRunOver label (length parts.items) parts.items crew.now.capacity f.programs.items f.lanes.items) }
+    ensures { IfOk result (λ f. IsRunOver label (M.takes agendas.now) (length parts.items) parts.items crew.now.capacity f.programs.items f.lanes.items) }
 {
     let programs = programs_of(alloc, parts, label, agendas)?;
     let group = assemble::<Relax<L, A>, RingLanes>(&(), alloc, programs, crew.capacity)?;
@@ -88,7 +90,7 @@ pub(crate) fn relax<
 ) -> Result<Finished<Relax<L, A>>, OutOfMemory>
     requires n { graph.n ≡ (D.sharing dist.now).n }
     ensures laws { IsSharing (D.sharing dist.now) }
-    ensures found { IfOk result (λ f. IsRelaxation label (D.sharing dist.now) graph crew.now.capacity f.programs.items f.lanes.items) }
+    ensures found { IfOk result (λ f. IsRelaxation label (M.takes agendas.now) (D.sharing dist.now) graph crew.now.capacity f.programs.items f.lanes.items) }
 {
     let _ranks = dist.ranks();
     let parts = split(alloc, &graph, dist)?;

@@ -1,6 +1,8 @@
 //! A plan's algorithm over its graph: its programs, and the answers that they hold.
 ghost use Rattle.std.specs.Prelude.{◌≡◌, ◌<◌, ◌≤◌, ◌^◌, All, IfOk, vec_len};
 ghost use Rattle.std.specs.Option.{ForSome, option_map};
+ghost use Rattle.pg_agenda.specs.BucketPhases.{takes_by};
+ghost use Rattle.pg_agenda.specs.Shares.{takes_all};
 ghost use Rattle.pg_dist.specs.Sharing.{IsSharing};
 ghost use Rattle.pg_print.specs.Columns.{column_text};
 ghost use Rattle.pg_words.specs.Plan.{meaning_of};
@@ -62,7 +64,7 @@ fn relax_over<
 ) -> Result<Relaxed<L, A>, OutOfMemory>
     requires n { graph.n ≡ (D.sharing dist.now).n }
     ensures laws { IsSharing (D.sharing dist.now) }
-    ensures relaxation { IfOk result (λ r. IsRelaxation label (D.sharing dist.now) graph crew.now.capacity r.finished.programs.items r.finished.lanes.items) }
+    ensures relaxation { IfOk result (λ r. IsRelaxation label (M.takes agendas.now) (D.sharing dist.now) graph crew.now.capacity r.finished.programs.items r.finished.lanes.items) }
     ensures held { IfOk result (λ r. AreAnswers field (D.sharing dist.now) r.finished.programs.items r.answers.of_vertices.items) }
 {
     let finished = relax(token, alloc, graph, dist, label, agendas, crew, gate)?;
@@ -89,7 +91,7 @@ fn relax_input<
 ) -> Result<Relaxed<L, A>, OutOfMemory>
     requires each { ForSome input.owners (λ owners. vec_len owners ≡ input.graph.n) }
     requires are_ranks { ForSome input.owners (λ owners. All (λ owner. owner < crew.now.ranks) owners.items) }
-    ensures { IfOk result (λ r. IsRelaxedBy label field (option_map (λ owners. owners.items) input.owners) crew.now.ranks crew.now.capacity input.graph
+    ensures { IfOk result (λ r. IsRelaxedBy label (M.takes agendas.now) field (option_map (λ owners. owners.items) input.owners) crew.now.ranks crew.now.capacity input.graph
         r.answers.of_vertices.items r.finished.programs.items r.finished.lanes.items) }
 {
     let Input { graph, owners } = input;
@@ -136,7 +138,7 @@ fn least_arcs<W: Threads + Wait + Sync, G: Gate>(
 ) -> Result<Relaxed<Hops, Levels>, OutOfMemory>
     requires each { ForSome input.owners (λ owners. vec_len owners ≡ input.graph.n) }
     requires are_ranks { ForSome input.owners (λ owners. All (λ owner. owner < crew.now.ranks) owners.items) }
-    ensures carried { IfOk result (λ r. IsCarried (record { source = source }) Field.Amount (option_map (λ owners. owners.items) input.owners) crew.now.ranks crew.now.capacity input.graph
+    ensures carried { IfOk result (λ r. IsCarried (record { source = source }) takes_all Field.Amount (option_map (λ owners. owners.items) input.owners) crew.now.ranks crew.now.capacity input.graph
         r.answers.of_vertices.items r.finished.programs.items r.finished.lanes.items) }
     ensures least { IfOk result (λ r. AreLeastArcs input.graph source r.answers.of_vertices.items) }
 {
@@ -167,7 +169,7 @@ fn least_weights<W: Threads + Wait + Sync, G: Gate>(
     requires a_width { 1 ≤ delta }
     requires each { ForSome input.owners (λ owners. vec_len owners ≡ input.graph.n) }
     requires are_ranks { ForSome input.owners (λ owners. All (λ owner. owner < crew.now.ranks) owners.items) }
-    ensures carried { IfOk result (λ r. IsCarried (record { source = source }) Field.Amount (option_map (λ owners. owners.items) input.owners) crew.now.ranks crew.now.capacity input.graph
+    ensures carried { IfOk result (λ r. IsCarried (record { source = source }) (takes_by delta) Field.Amount (option_map (λ owners. owners.items) input.owners) crew.now.ranks crew.now.capacity input.graph
         r.answers.of_vertices.items r.finished.programs.items r.finished.lanes.items) }
     ensures least { IfOk result (λ r. AreLeastWeights input.graph source r.answers.of_vertices.items) }
 {
@@ -196,7 +198,7 @@ fn lowest<W: Threads + Wait + Sync, G: Gate>(
 ) -> Result<Relaxed<Root, Levels>, OutOfMemory>
     requires each { ForSome input.owners (λ owners. vec_len owners ≡ input.graph.n) }
     requires are_ranks { ForSome input.owners (λ owners. All (λ owner. owner < crew.now.ranks) owners.items) }
-    ensures carried { IfOk result (λ r. IsCarried (record {}) Field.Class (option_map (λ owners. owners.items) input.owners) crew.now.ranks crew.now.capacity input.graph
+    ensures carried { IfOk result (λ r. IsCarried (record {}) takes_all Field.Class (option_map (λ owners. owners.items) input.owners) crew.now.ranks crew.now.capacity input.graph
         r.answers.of_vertices.items r.finished.programs.items r.finished.lanes.items) }
     ensures lowest { IfOk result (λ r. AreLowest input.graph r.answers.of_vertices.items) }
 {

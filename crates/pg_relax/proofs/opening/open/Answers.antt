@@ -17,4 +17,5 @@ loop-place-preserved g c =
           (λ class some. said.started class (ap (g.L.Label.start c.args.label.now) c.vertex.ensures.value ∙ some))
           (λ none o. subst (λ f. IsOpenBelow c.loop-place.place label c.args.part.now f.table.values.items (g.A.Agenda.pending f.agenda)) (sym (said.stays (ap (g.L.Label.start c.args.label.now) c.vertex.ensures.value ∙ none))) o)
           inv.opening;
+      takes = λ share w. said.same_takes share w ∙ inv.takes share w;
     }

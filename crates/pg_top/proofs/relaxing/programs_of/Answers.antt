@@ -1,6 +1,7 @@
-use Rattle.std.proofs.Common.{◌∙◌, ◌≡◌, ◌∷◌, [], sym, ap, subst, arith, length, length-append}
+use Rattle.std.proofs.Common.{◌∙◌, ◌≡◌, ℕ, ◌∷◌, [], sym, ap, subst, arith, length, length-append}
 use Rattle.pg_group.specs.Entries.{Each}
-use Rattle.pg_relax.specs.Shown.{IsNewRelax, label_in, part_in}
+use Rattle.pg_agenda.specs.declared.shares.Share.{Share}
+use Rattle.pg_relax.specs.Shown.{IsNewRelax, label_in, part_in, state_of}
 use Rattle.pg_run.proofs.Seating.{taken_over, each_reverse}
 use Rattle.pg_top.proofs.relaxing.programs_of.Goals as goal
 
@@ -19,6 +20,7 @@ loop-part-preserved g c =
       fit = omega (arith, inv.fit, one, two, c.push_reserved.ensures.capacity);
       new = each_reverse (λ p. IsNewRelax p) before c.push_reserved.new.self.items r pushed said.new inv.new;
       labels = each_reverse (λ p. label_in p ≡ c.args.label) before c.push_reserved.new.self.items r pushed said.label inv.labels;
+      shares = each_reverse (λ p. (share : Share) (w : ℕ) → (state_of p).takes share w ≡ g.M.Agendas.takes c.args.agendas.now share w) before c.push_reserved.new.self.items r pushed (λ share w. said.takes share w ∙ c.in_ok-agenda.ensures.takes share w) inv.shares;
     }
 
 pub returns-clause-new : goal.returns-clause-new
@@ -26,3 +28,6 @@ returns-clause-new g c = subst (λ l. Each (λ rank p. IsNewRelax p) l) (sym c.r
 
 pub returns-clause-labels : goal.returns-clause-labels
 returns-clause-labels g c = subst (λ l. Each (λ rank p. label_in p ≡ c.args.label) l) (sym c.reverse.ensures.items) c.loop-part.invariant.labels
+
+pub returns-clause-shares : goal.returns-clause-shares
+returns-clause-shares g c = subst (λ l. Each (λ rank p. (share : Share) (w : ℕ) → (state_of p).takes share w ≡ g.M.Agendas.takes c.args.agendas.now share w) l) (sym c.reverse.ensures.items) c.loop-part.invariant.shares

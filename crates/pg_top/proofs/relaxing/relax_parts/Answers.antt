@@ -29,12 +29,13 @@ returns g c =
     let machines = machines_of c.in_ok-group.group in
     let openings = c.in_ok-programs.programs.items in
     let long : length machines ≡ length c.args.parts.items = group.count ∙ (sym (length_of_map part_in openings) ∙ ap length made.parts) in
-    subst (λ n. IsRunOver c.args.label n c.args.parts.items c.args.crew.now.capacity c.run.result.programs.items c.run.result.lanes.items) long
+    subst (λ n. IsRunOver c.args.label (g.M.Agendas.takes c.args.agendas.now) n c.args.parts.items c.args.crew.now.capacity c.run.result.programs.items c.run.result.lanes.items) long
     (record {
       openings = openings;
       opened = made.parts;
       new = made.new;
       labels = made.labels;
+      shares = made.shares;
       count = ran.programs;
       lane_for_each = ran.lanes;
       capacities = λ sender receiver lane is.

@@ -1,4 +1,5 @@
 use Rattle.pg_base.specs.Distances.{AreLeastArcs}
+use Rattle.pg_agenda.specs.Shares.{takes_all}
 use Rattle.pg_label.specs.declared.labels.Hops.{Hops}
 use Rattle.pg_top.specs.declared.columns.Field.TheVariants.{Amount}
 use Rattle.pg_top.specs.Work.{IsCarried, IsRelaxedBy}
@@ -12,8 +13,8 @@ returns-clause-carried g c =
     let source : Hops = record { source = c.args.source } in
     let owners = option_map (λ owners. owners.items) c.args.input.owners in
     ok_then c.relax_input.result
-    (λ r. IsRelaxedBy source Amount owners c.args.crew.now.ranks c.args.crew.now.capacity c.args.input.graph r.answers.of_vertices.items r.finished.programs.items r.finished.lanes.items)
-    (λ r. IsCarried source Amount owners c.args.crew.now.ranks c.args.crew.now.capacity c.args.input.graph r.answers.of_vertices.items r.finished.programs.items r.finished.lanes.items) c.relax_input.ensures
+    (λ r. IsRelaxedBy source takes_all Amount owners c.args.crew.now.ranks c.args.crew.now.capacity c.args.input.graph r.answers.of_vertices.items r.finished.programs.items r.finished.lanes.items)
+    (λ r. IsCarried source takes_all Amount owners c.args.crew.now.ranks c.args.crew.now.capacity c.args.input.graph r.answers.of_vertices.items r.finished.programs.items r.finished.lanes.items) c.relax_input.ensures
     (λ r relaxed. (arcs_are_least owners c.args.crew.now.ranks c.args.crew.now.capacity c.args.input.graph c.n-n.ensures.graph r.answers.of_vertices.items r.finished.lanes.items source r.finished.programs.items relaxed).0)
 
 pub returns-clause-least : goal.returns-clause-least
@@ -21,6 +22,6 @@ returns-clause-least g c =
     let source : Hops = record { source = c.args.source } in
     let owners = option_map (λ owners. owners.items) c.args.input.owners in
     ok_then c.relax_input.result
-    (λ r. IsRelaxedBy source Amount owners c.args.crew.now.ranks c.args.crew.now.capacity c.args.input.graph r.answers.of_vertices.items r.finished.programs.items r.finished.lanes.items)
+    (λ r. IsRelaxedBy source takes_all Amount owners c.args.crew.now.ranks c.args.crew.now.capacity c.args.input.graph r.answers.of_vertices.items r.finished.programs.items r.finished.lanes.items)
     (λ r. AreLeastArcs c.args.input.graph c.args.source r.answers.of_vertices.items) c.relax_input.ensures
     (λ r relaxed. (arcs_are_least owners c.args.crew.now.ranks c.args.crew.now.capacity c.args.input.graph c.n-n.ensures.graph r.answers.of_vertices.items r.finished.lanes.items source r.finished.programs.items relaxed).1)

@@ -1,4 +1,5 @@
 use Rattle.std.proofs.Common.{arith}
+use Rattle.pg_agenda.specs.BucketPhases.{takes_by}
 use Rattle.pg_label.specs.declared.labels.Weight.{Weight}
 use Rattle.pg_top.specs.declared.columns.Field.TheVariants.{Amount}
 use Rattle.pg_top.specs.Text.{AreLeastWeights}
@@ -13,8 +14,8 @@ returns-clause-carried g c =
     let source : Weight = record { source = c.args.source } in
     let owners = option_map (λ owners. owners.items) c.args.input.owners in
     ok_then c.relax_input.result
-    (λ r. IsRelaxedBy source Amount owners c.args.crew.now.ranks c.args.crew.now.capacity c.args.input.graph r.answers.of_vertices.items r.finished.programs.items r.finished.lanes.items)
-    (λ r. IsCarried source Amount owners c.args.crew.now.ranks c.args.crew.now.capacity c.args.input.graph r.answers.of_vertices.items r.finished.programs.items r.finished.lanes.items) c.relax_input.ensures
+    (λ r. IsRelaxedBy source (takes_by c.args.delta) Amount owners c.args.crew.now.ranks c.args.crew.now.capacity c.args.input.graph r.answers.of_vertices.items r.finished.programs.items r.finished.lanes.items)
+    (λ r. IsCarried source (takes_by c.args.delta) Amount owners c.args.crew.now.ranks c.args.crew.now.capacity c.args.input.graph r.answers.of_vertices.items r.finished.programs.items r.finished.lanes.items) c.relax_input.ensures
     (λ r relaxed. (weights_are_right owners c.args.crew.now.ranks c.args.crew.now.capacity c.args.input.graph c.heaviest-most.ensures.graph r.answers.of_vertices.items r.finished.lanes.items source r.finished.programs.items relaxed
     c.heaviest-most.result (omega arith) c.heaviest-most.ensures.most).0)
 
@@ -23,7 +24,7 @@ returns-clause-least g c =
     let source : Weight = record { source = c.args.source } in
     let owners = option_map (λ owners. owners.items) c.args.input.owners in
     ok_then c.relax_input.result
-    (λ r. IsRelaxedBy source Amount owners c.args.crew.now.ranks c.args.crew.now.capacity c.args.input.graph r.answers.of_vertices.items r.finished.programs.items r.finished.lanes.items)
+    (λ r. IsRelaxedBy source (takes_by c.args.delta) Amount owners c.args.crew.now.ranks c.args.crew.now.capacity c.args.input.graph r.answers.of_vertices.items r.finished.programs.items r.finished.lanes.items)
     (λ r. AreLeastWeights c.args.input.graph c.args.source r.answers.of_vertices.items) c.relax_input.ensures
     (λ r relaxed. (weights_are_right owners c.args.crew.now.ranks c.args.crew.now.capacity c.args.input.graph c.heaviest-most.ensures.graph r.answers.of_vertices.items r.finished.lanes.items source r.finished.programs.items relaxed
     c.heaviest-most.result (omega arith) c.heaviest-most.ensures.most).1)

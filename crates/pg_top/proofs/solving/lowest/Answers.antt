@@ -1,3 +1,4 @@
+use Rattle.pg_agenda.specs.Shares.{takes_all}
 use Rattle.pg_label.specs.declared.labels.Root.{Root}
 use Rattle.pg_top.specs.declared.columns.Field.TheVariants.{Class}
 use Rattle.pg_top.specs.Text.{AreLowest}
@@ -12,8 +13,8 @@ returns-clause-carried g c =
     let root : Root = record {} in
     let owners = option_map (λ owners. owners.items) c.args.input.owners in
     ok_then c.relax_input.result
-    (λ r. IsRelaxedBy root Class owners c.args.crew.now.ranks c.args.crew.now.capacity c.args.input.graph r.answers.of_vertices.items r.finished.programs.items r.finished.lanes.items)
-    (λ r. IsCarried root Class owners c.args.crew.now.ranks c.args.crew.now.capacity c.args.input.graph r.answers.of_vertices.items r.finished.programs.items r.finished.lanes.items) c.relax_input.ensures
+    (λ r. IsRelaxedBy root takes_all Class owners c.args.crew.now.ranks c.args.crew.now.capacity c.args.input.graph r.answers.of_vertices.items r.finished.programs.items r.finished.lanes.items)
+    (λ r. IsCarried root takes_all Class owners c.args.crew.now.ranks c.args.crew.now.capacity c.args.input.graph r.answers.of_vertices.items r.finished.programs.items r.finished.lanes.items) c.relax_input.ensures
     (λ r relaxed. (roots_are_right owners c.args.crew.now.ranks c.args.crew.now.capacity c.args.input.graph c.n-n.ensures.graph r.answers.of_vertices.items r.finished.lanes.items root r.finished.programs.items relaxed).0)
 
 pub returns-clause-lowest : goal.returns-clause-lowest
@@ -21,6 +22,6 @@ returns-clause-lowest g c =
     let root : Root = record {} in
     let owners = option_map (λ owners. owners.items) c.args.input.owners in
     ok_then c.relax_input.result
-    (λ r. IsRelaxedBy root Class owners c.args.crew.now.ranks c.args.crew.now.capacity c.args.input.graph r.answers.of_vertices.items r.finished.programs.items r.finished.lanes.items)
+    (λ r. IsRelaxedBy root takes_all Class owners c.args.crew.now.ranks c.args.crew.now.capacity c.args.input.graph r.answers.of_vertices.items r.finished.programs.items r.finished.lanes.items)
     (λ r. AreLowest c.args.input.graph r.answers.of_vertices.items) c.relax_input.ensures
     (λ r relaxed. (roots_are_right owners c.args.crew.now.ranks c.args.crew.now.capacity c.args.input.graph c.n-n.ensures.graph r.answers.of_vertices.items r.finished.lanes.items root r.finished.programs.items relaxed).1)

@@ -15,9 +15,9 @@ returns-in-None g c =
     let blocks : IsInBlocks c.n.result c.args.crew.now.ranks s = record { vertices = made.vertices; group = made.ranks; counts = made.counts; blocks = made.blocks } in
     rw c.in-None.is
     (ok_both c.relax_over-in-None.result
-    (λ r. IsRelaxation c.args.label s c.args.input.graph c.args.crew.now.capacity r.finished.programs.items r.finished.lanes.items)
+    (λ r. IsRelaxation c.args.label (g.M.Agendas.takes c.args.agendas.now) s c.args.input.graph c.args.crew.now.capacity r.finished.programs.items r.finished.lanes.items)
     (λ r. AreAnswers c.args.field s r.finished.programs.items r.answers.of_vertices.items)
-    (λ r. IsRelaxedBy c.args.label c.args.field None c.args.crew.now.ranks c.args.crew.now.capacity c.args.input.graph r.answers.of_vertices.items r.finished.programs.items r.finished.lanes.items)
+    (λ r. IsRelaxedBy c.args.label (g.M.Agendas.takes c.args.agendas.now) c.args.field None c.args.crew.now.ranks c.args.crew.now.capacity c.args.input.graph r.answers.of_vertices.items r.finished.programs.items r.finished.lanes.items)
     said.relaxation said.held (λ r relaxation held. record {
       sharing = s;
       laws = said.laws;

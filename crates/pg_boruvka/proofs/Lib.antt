@@ -1,0 +1,17 @@
+pub mod RoundLists
+pub mod Leasts
+pub mod Pieces
+pub mod Items
+pub mod Runs
+pub mod Reducing
+pub mod OwnHooks
+pub mod Staying
+pub mod Hooking
+pub mod Growing
+pub mod Ending
+pub mod Incident
+pub mod Divisions
+pub mod Agreeing
+pub mod Keeping
+pub mod Stepping
+pub mod ExampleRun
