@@ -1,14 +1,27 @@
 #!/usr/bin/env python3
-"""Runs `pbgl bfs` on two big files, beside the same job by a short C++ program over Boost.Graph, and `pg_bench`,
-which reads a file of the greatest size and divides its graph among ranks, lets ranks send each other messages, and
+"""Runs `pbgl` on big files, beside the same jobs by a short C++ program over Boost.Graph, and `pg_bench`, which reads a
+file of the greatest size and divides its graph among ranks, relaxes over them, lets ranks send each other messages, and
 synchronizes a property map. `pg_queues` sends messages through one lane.
 
-    python3 bench/run.py [--only bfs|divide|lane|traffic|cells] [--vertices N] [--edges M] [--rounds K] [--beside PROGRAM]
+    python3 bench/run.py [--only bfs|algorithms|delta|divide|lane|traffic|cells] [--vertices N] [--edges M] [--rounds K]
+                         [--beside PROGRAM]
+
+Without --vertices and --edges the files have the sizes that are told here; with --vertices alone, eight edges a vertex.
 
 bfs: the files have 1,000,000 vertices, one with 8,000,000 edges by a seeded rule and one in a row. For each
 program the least of three interleaved runs counts: seconds for the whole, megabytes of the file a second, peak
 memory. Both write one line a system call, to the null device. Boost.Graph is Debian's libboost-graph-dev;
 where it or g++ is missing that program is skipped. The outputs are compared once.
+
+algorithms: `pbgl` runs breadth-first search, least weights and components on three files: 1,048,576 vertices and 8,388,608
+edges by the seeded rule, an R-MAT graph of as many vertices and draws, and a grid of 1,000 by 1,000, each with weights from
+1 to 4,096. For 1, 2 and 4 ranks on as many threads, and for Boost.Graph's own algorithm on one thread, the least of three
+interleaved runs counts: seconds for the whole and peak memory; then milliseconds of each phase by itself, which `pg_bench`
+tells of the same run without the writing, and its messages, the offers among them, and the ghosts. The outputs are compared
+once for each file and algorithm.
+
+delta: `pbgl sssp` runs on the same files with buckets of seven widths, on 1 and on 4 ranks with as many threads. For each
+the least of three interleaved runs counts, as above. What takes more than 60 seconds is cut off.
 
 divide: one file has 1,048,576 vertices and 8,388,608 edges by the seeded rule, the other is a band of as many vertices, each
 joined to the next eight. For each number of ranks and each layout the least of three interleaved runs counts: milliseconds
@@ -27,10 +40,11 @@ cells: the file has 1,000,000 vertices and 8,000,000 edges by the seeded rule, a
 put to each cell of each rank, own vertex or ghost, and the map is synchronized with forward and backward, on the caller's
 thread. The least of three runs counts: cells a second of filling and synchronizing together.
 """
-import argparse, os, re, subprocess, sys, tempfile, time
+import argparse, math, os, re, subprocess, sys, tempfile, time
 
 HERE = os.path.dirname(os.path.abspath(__file__))
 TOP = os.path.dirname(HERE)
+LIMIT = 60  # Seconds; a program that prints for longer is cut off, and not measured.
 
 
 def compiled(source, folder):
@@ -43,21 +57,46 @@ def compiled(source, folder):
 
 def measured(words, wanted=0):
     """Seconds and peak megabytes of one run, which ends with the status wanted."""
-    with open(os.devnull, "wb") as sink:
-        began = time.monotonic()
-        child = subprocess.Popen(words, stdout=sink, stderr=sink if wanted else None)
-        _, status, usage = os.wait4(child.pid, 0)
-        seconds = time.monotonic() - began
+    seconds, memory, _ = phased(words, wanted)
+    return seconds, memory
+
+
+def phased(words, wanted=0):
+    """Seconds and peak megabytes of one run, which ends with the status wanted, and the milliseconds that it told."""
+    began = time.monotonic()
+    child = subprocess.Popen(words, stdout=subprocess.DEVNULL, stderr=subprocess.PIPE, text=True)
+    times = child.stderr.read()
+    _, status, usage = os.wait4(child.pid, 0)
+    seconds = time.monotonic() - began
     if os.waitstatus_to_exitcode(status) != wanted:
-        sys.exit("%s ended with %d" % (" ".join(words), os.waitstatus_to_exitcode(status)))
-    return seconds, usage.ru_maxrss / 1024
+        sys.exit("%s ended with %d: %s" % (" ".join(words), os.waitstatus_to_exitcode(status), times))
+    return seconds, usage.ru_maxrss / 1024, milliseconds(times)
+
+
+def milliseconds(times):
+    return [int(time) for time in re.findall(r"(\d+) ms", times)]
+
+
+def printed(words):
+    """What the program prints, or None where it is cut off."""
+    try:
+        return subprocess.run(words, stdout=subprocess.PIPE, stderr=subprocess.DEVNULL, check=True, timeout=LIMIT).stdout
+    except subprocess.TimeoutExpired:
+        return None
+
+
+def compare(name, programs):
+    """The programs that were not cut off. Ends all where they print different texts."""
+    texts = {program: printed(words) for program, words in programs.items()}
+    ended = [program for program, text in texts.items() if text is not None]
+    if len({texts[program] for program in ended}) > 1:
+        sys.exit("the programs print different texts for " + name)
+    return ended
 
 
 def report(name, file, programs, rounds):
     size = os.path.getsize(file) / 1e6
-    texts = {subprocess.run(words, stdout=subprocess.PIPE, check=True).stdout for words in programs.values()}
-    if len(texts) != 1:
-        sys.exit("the programs print different texts for " + name)
+    compare(name, programs)
     best = {}
     for _ in range(rounds):
         for program, words in programs.items():
@@ -85,7 +124,7 @@ def timed(words):
     _, status, usage = os.wait4(child.pid, 0)
     if status != 0:
         sys.exit("%s ended with %d: %s" % (" ".join(words), status, times))
-    return [int(time) for time in re.findall(r"(\d+) ms", times)], usage.ru_maxrss * 1024 / 1e6, counts.strip()
+    return milliseconds(times), usage.ru_maxrss * 1024 / 1e6, counts.strip()
 
 
 def report_divisions(name, file, program, rounds):
@@ -113,7 +152,7 @@ def report_traffic(programs, rounds):
                 best[ranks, name] = min(best.get((ranks, name), (running, counts)), (running, counts))
     for (ranks, name), (running, counts) in best.items():
         print("%2d ranks %s in %5d ms, %.1f million a second%s"
-              % (ranks, counts, running, int(counts.split()[0]) / running / 1000, name))
+              % (ranks, counts, running, int(counts.split()[0]) / max(running, 1) / 1000, name))
 
 
 def report_lane(program, rounds):
@@ -138,48 +177,129 @@ def report_cells(file, program, rounds):
         best = min(best or (running, memory, counts), (running, memory, counts))
     running, memory, counts = best
     print(" 4 ranks %s in %5d ms, %.1f million a second, %4.0f MB"
-          % (counts, running, int(counts.split()[0]) / running / 1000, memory))
+          % (counts, running, int(counts.split()[0]) / max(running, 1) / 1000, memory))
 
 
-def made(make, folder, name, words):
-    """A graph file with this name."""
-    file = os.path.join(folder, name + ".graph")
-    with open(file, "wb") as handle:
-        subprocess.run([make] + words, stdout=handle, check=True)
+def least(old, new):
+    """The least of each number of two runs."""
+    return new if old is None else [min(a, b) for a, b in zip(old, new)]
+
+
+def whole_and_phases(program, phases):
+    """The numbers of one run of a program, and the counts of the run that tells its phases."""
+    seconds, memory, times = phased(program)
+    if phases is None:
+        return [seconds, memory] + times, ""
+    times, _, counts = timed(phases)
+    return [seconds, memory] + times, "; " + counts
+
+
+def report_phases(name, runs, rounds):
+    """Each run has the words of a program, and those of one that tells its phases, or None where it does so itself."""
+    ended = compare(name, {run: program for run, (program, _) in runs.items()})
+    best, counted = {}, {}
+    for _ in range(rounds):
+        for run in ended:
+            numbers, counted[run] = whole_and_phases(*runs[run])
+            best[run] = least(best.get(run), numbers)
+    for run, (seconds, memory, reading, building, running) in best.items():
+        print("%-18s %-12s %7.2f s %5.0f MB; %5d ms reading, %5d ms building, %6d ms running%s"
+              % (name, run, seconds, memory, reading, building, running, counted[run]), flush=True)
+    for run in runs:
+        if run not in best:
+            print("%-18s %-12s more than %d s" % (name, run, LIMIT), flush=True)
+
+
+def made(make, folder, words):
+    """The graph file that these words make, made where it isn't there."""
+    file = os.path.join(folder, "_".join(words) + ".graph")
+    if not os.path.exists(file):
+        with open(file, "wb") as handle:
+            subprocess.run([make] + words, stdout=handle, check=True)
     return file
 
 
-def searches(make, folder, given):
+def built_pbgl():
+    """The program `pbgl`, proved and built where it isn't current."""
     subprocess.run([os.path.join(TOP, "bin", "pbgl"), "bfs", os.path.join(TOP, "examples", "mesh.graph"),
                     "--source", "1"], stdout=subprocess.DEVNULL, check=True)
-    pbgl = os.path.join(TOP, "crates", "pbgl", "out", "pbgl")
-    boost = compiled("bfs_boost.cpp", folder)
-    kinds = {"random": ["random", str(given.vertices), str(given.edges), "1"], "path": ["band", str(given.vertices), "1"]}
-    for name, words in kinds.items():
-        file = made(make, folder, name, words)
+    return os.path.join(TOP, "crates", "pbgl", "out", "pbgl")
+
+
+def searches(make, folder, given):
+    pbgl, boost = built_pbgl(), compiled("algorithms_boost.cpp", folder)
+    vertices, edges = sizes(given, 1_000_000)
+    for name, words in {"random": ["random", vertices, edges, "1"], "path": ["band", vertices, "1"]}.items():
+        file = made(make, folder, words)
         programs = {"pbgl": [pbgl, "bfs", file, "--source", "1"]}
         if boost is not None:
-            programs["boost"] = [boost, file, "1"]
+            programs["boost"] = [boost, "bfs", file, "1"]
         report(name, file, programs, given.rounds)
+
+
+def weighted_graphs(make, folder, given):
+    """The three files of the algorithms, by their names."""
+    vertices, edges = sizes(given, 1 << 20)
+    side, scale = str(math.isqrt(given.vertices or 1_000_000)), str(int(vertices).bit_length() - 1)
+    kinds = {"random": ["random", vertices, edges], "rmat": ["rmat", scale, edges], "grid": ["grid", side, side]}
+    return {name: made(make, folder, words + ["1", "4096"]) for name, words in kinds.items()}
+
+
+def over_ranks(file, algorithm, ranks, delta=None):
+    """The words of `pbgl` and of `pg_bench` for an algorithm on so many ranks and threads, without the programs' names."""
+    source = [] if algorithm == "components" else ["--source", "1"]
+    width = [] if delta is None else ["--delta", str(delta)]
+    whole = [algorithm, file] + source + width + ["--ranks", str(ranks), "--threads", str(ranks)]
+    return whole, ["relax", file, algorithm, str(ranks), str(ranks)] + width[1:]
+
+
+def algorithms(make, folder, given):
+    pbgl, pg_bench, boost = built_pbgl(), built("pg_bench"), compiled("algorithms_boost.cpp", folder)
+    for name, file in weighted_graphs(make, folder, given).items():
+        for algorithm in ("bfs", "sssp", "components"):
+            runs = {}
+            for ranks in (1, 2, 4):
+                whole, phases = over_ranks(file, algorithm, ranks)
+                runs["%d rank%s" % (ranks, "s"[:ranks - 1])] = [pbgl] + whole, [pg_bench] + phases
+            if boost is not None:
+                runs["boost"] = [boost, algorithm, file] + ["1"] * (algorithm != "components"), None
+            report_phases(name + " " + algorithm, runs, given.rounds)
+
+
+def deltas(make, folder, given):
+    pbgl, pg_bench = built_pbgl(), built("pg_bench")
+    for name, file in weighted_graphs(make, folder, given).items():
+        for ranks in (1, 4):
+            runs = {}
+            for delta in (1, 8, 32, 128, 1024, 4096, 65536):
+                whole, phases = over_ranks(file, "sssp", ranks, delta)
+                runs["delta %d" % delta] = [pbgl] + whole, [pg_bench] + phases
+            report_phases("%s on %d" % (name, ranks), runs, given.rounds)
 
 
 def divisions(make, folder, given):
     vertices, edges = str(1 << 20), str(1 << 23)
     for name, words in {"random": ["random", vertices, edges, "1"], "band": ["band", vertices, "8"]}.items():
-        report_divisions(name, made(make, folder, name, words), built("pg_bench"), given.rounds)
+        report_divisions(name, made(make, folder, words), built("pg_bench"), given.rounds)
 
 
 def maps(make, folder, given):
-    file = made(make, folder, "maps", ["random", str(given.vertices), str(given.edges), "1"])
+    file = made(make, folder, ["random", *sizes(given, 1_000_000), "1"])
     report_cells(file, built("pg_bench"), given.rounds)
+
+
+def sizes(given, usual):
+    """The words of how many vertices and edges a file has; so many vertices, and eight edges each, where it isn't told."""
+    vertices = given.vertices or usual
+    return str(vertices), str(given.edges or 8 * vertices)
 
 
 def main():
     parser = argparse.ArgumentParser(description=__doc__, formatter_class=argparse.RawDescriptionHelpFormatter)
-    parser.add_argument("--vertices", type=int, default=1_000_000)
-    parser.add_argument("--edges", type=int, default=8_000_000)
+    parser.add_argument("--vertices", type=int)
+    parser.add_argument("--edges", type=int)
     parser.add_argument("--rounds", type=int, default=3)
-    parser.add_argument("--only", choices=["bfs", "divide", "lane", "traffic", "cells"])
+    parser.add_argument("--only", choices=["bfs", "algorithms", "delta", "divide", "lane", "traffic", "cells"])
     parser.add_argument("--beside")
     given = parser.parse_args()
     if given.only in (None, "lane"):
@@ -195,7 +315,8 @@ def main():
         make = compiled("make_graph.cpp", folder)
         if make is None:
             sys.exit("g++ is missing: no file to measure on")
-        for name, job in {"bfs": searches, "divide": divisions, "cells": maps}.items():
+        jobs = {"bfs": searches, "algorithms": algorithms, "delta": deltas, "divide": divisions, "cells": maps}
+        for name, job in jobs.items():
             if given.only in (None, name):
                 job(make, folder, given)
 

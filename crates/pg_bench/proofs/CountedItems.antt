@@ -6,7 +6,7 @@ use Rattle.pg_group.specs.declared.messages.Body.TheVariants.{Item, Mark}
 use Rattle.pg_group.specs.declared.messages.Vote.{Vote}
 use Rattle.pg_group.specs.Ranked.{append_at}
 use Rattle.pg_group.specs.Rounds.{is_mark}
-use Rattle.pg_group.specs.Supersteps.{append_each, append_marks, nothing}
+use Rattle.pg_group.specs.Supersteps.{append_each, append_marks}
 use Rattle.pg_group.proofs.RollLemmas.{length-append_at, length-append_marks}
 use Rattle.pg_bench.specs.Counts.{items_among, AreCounted}
 

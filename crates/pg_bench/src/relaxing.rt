@@ -17,7 +17,7 @@ use pg_relax::Relax;
 use pg_run::{Group, assemble};
 use std::alloc::Global;
 
-// How many messages a lane holds.
+// How many messages a lane holds, as in a run of `pbgl` where no word says it.
 const CAPACITY: u32 = 1024;
 
 /// The relaxations of the parts, in their order, each with a new agenda, ready to run.

@@ -1,9 +1,17 @@
-//! Whole runs of pairs of rolls, of one round and of two.
+//! Whole runs of pairs of rolls, of one round and of two, and of relaxations.
 ghost use Rattle.std.specs.Prelude.{◌≡◌, ◌≤◌, IfOk, length};
 ghost use Rattle.pg_group.specs.Entries.{Each};
 
-use pg_base::{OpenGate, OutOfMemory, RankNo, Ranks};
+use crate::agendas::{ByBucket, ByLevel};
+use crate::counted::item_count;
+use crate::relaxing::group_of_relaxations;
+use crate::sites::blocks;
+use crate::totals::ghost_count;
+use crate::traffic::message_count;
+use pg_adj::Part;
+use pg_base::{Edge, EdgeList, OpenGate, OutOfMemory, RankNo, Ranks, laws};
 use pg_group::{Program, Roll};
+use pg_label::{Hops, Weight};
 use pg_lane::RingLanes;
 use pg_run::{Turn, assemble, drive, run};
 use pg_triggers::Pair;
@@ -83,4 +91,44 @@ fn a_pair_on_one_rank_ends_without_lanes(rt: HostRuntime) -> Result<(), Fail> {
     assert_eq!(rt; machine.turn(), Turn::Done);
     assert_eq!(rt; machine.next_turn(), 3);
     Ok(())
+}
+
+#[test]
+fn a_search_of_a_path_over_two_ranks_offers_once_to_each_ghost(
+    rt: HostRuntime,
+) -> Result<(), Fail> {
+    let parts = path_parts(rt.alloc())?;
+    assert_eq!(rt; ghost_count(&parts), 2);
+    let group = group_of_relaxations(rt.alloc(), parts, Hops { source: 1 }, &ByLevel)?;
+    let finished = run(&rt, group, 2, &OpenGate);
+    assert_eq!(rt; item_count(&finished.programs), 2);
+    assert!(rt; message_count(&finished.lanes) > 2);
+    Ok(())
+}
+
+#[test]
+fn least_weights_of_a_path_over_two_ranks_offer_once_to_each_ghost(
+    rt: HostRuntime,
+) -> Result<(), Fail> {
+    let parts = path_parts(rt.alloc())?;
+    let buckets = ByBucket { delta: 4 };
+    let group = group_of_relaxations(rt.alloc(), parts, Weight { source: 1 }, &buckets)?;
+    let finished = run(&rt, group, 1, &OpenGate);
+    assert_eq!(rt; item_count(&finished.programs), 2);
+    Ok(())
+}
+
+// The parts of the path 1, 2, 3 beside a vertex of its own, in blocks of two ranks.
+fn path_parts(alloc: Global) -> Result<Vec<Part>, Fail>
+    ensures count { IfOk result (λ parts. length parts.items ≡ 2) }
+    ensures rank { IfOk result (λ parts. Each (λ rank p. p.rank ≡ rank) parts.items) }
+    ensures ranks { IfOk result (λ parts. Each (λ rank p. p.ranks ≡ 2) parts.items) }
+{
+    let first = Edge { u: 1, v: 2, w: 5 };
+    let second = Edge { u: 2, v: 3, w: 2 };
+    let edges = vec![in alloc; first, second]?;
+    laws::graphs();
+    let graph = EdgeList::new(4, edges);
+    let ranks = Ranks::new(2).ok_or("no number of ranks")?;
+    Ok(blocks(alloc, &graph, ranks)?)
 }
