@@ -45,6 +45,19 @@ module _ {count nodes : ℕ} {next prev home stamp : ℕ → ℕ} {clock : ℕ} 
   pub first_home : AreLinked count nodes next prev home stamp clock → (s : ℕ) → count ≤ s → s < nodes → home (next s) ≡ s
   first_home l s head lt = l.same s lt ∙ l.heads s head
 
+  -- the same from its end
+  pub bare_before : AreLinked count nodes next prev home stamp clock → count ≤ nodes → (s : ℕ) → count ≤ s → s < nodes → prev s ≡ s → (x : ℕ) → x < count → home x ≢ s
+  bare_before l le s head lt e = bare l le s head (ap next (sym e) ∙ l.forth s lt)
+
+  pub last_within : AreLinked count nodes next prev home stamp clock → (s : ℕ) → count ≤ s → s < nodes → prev s ≢ s → prev s < count
+  last_within l s head lt ne = elim (cases_lt (prev s) count) [
+    | inl within ↦ within
+    | inr past ↦ absurd (ne (sym (l.heads (prev s) past) ∙ home_before l s lt ∙ l.heads s head))
+  ]
+
+  pub last_home : AreLinked count nodes next prev home stamp clock → (s : ℕ) → count ≤ s → s < nodes → home (prev s) ≡ s
+  last_home l s head lt = home_before l s lt ∙ l.heads s head
+
   -- the places of a list were moved there later than those that come after them
   pub earlier : AreLinked count nodes next prev home stamp clock → (p : ℕ) → p < count → count ≤ nodes → count ≤ home p → stamp (next p) < stamp p
   earlier l p lt le linked =

@@ -99,7 +99,8 @@ impl BucketQueue {
         self.far = self.far.with(self.first, place, bucket);
     }
 
-    /// Takes a place out of this bucket, which is one of the window, if there is one in it. Takes constant time.
+    /// Takes the place that has been in this bucket longest out of it, if there is one in it; the bucket is one of the window.
+    /// Takes constant time. In this order few places come back to a bucket with a lesser amount; that is for speed alone.
     pub(crate) fn take(&mut self, bucket: u64) -> Option<u32>
         requires { is_near self.old.first bucket ≡ true }
         ensures none { IfNone result ((place : ℕ) → bucket_of self.old.buckets.items place ≢ bucket) }
@@ -111,7 +112,7 @@ impl BucketQueue {
     {
         let place = self
             .lists
-            .take_first(head_of(self.heads, self.first, bucket))?;
+            .take_last(head_of(self.heads, self.first, bucket))?;
         self.buckets[place as usize] = NONE;
         renew(
             &mut self.lowest,

@@ -87,6 +87,29 @@ impl PlaceLists {
         Some(first)
     }
 
+    /// Takes the last place out of a list, the one that was put there before all others, if it has one.
+    pub(crate) fn take_last(&mut self, list: u32) -> Option<u32>
+        requires head { self.old.count ≤ list }
+        requires list { list < length self.old.next.items }
+        ensures none { IfNone result ((place : ℕ) → place < self.old.count → home self.old.moves place ≢ list) }
+        ensures rests { IfNone result ((x : ℕ) → home self.new.moves x ≡ home self.old.moves x) }
+        ensures same_next { IfNone result (self.new.next.items ≡ self.old.next.items) }
+        ensures within { IfSome result (λ place. place < self.old.count) }
+        ensures some { IfSome result (λ place. home self.old.moves place ≡ list) }
+        ensures alone { IfSome result (λ place. home self.new.moves place ≡ place) }
+        ensures others { IfSome result (λ place. (x : ℕ) → x ≢ place → home self.new.moves x ≡ home self.old.moves x) }
+        ensures kept { (head : ℕ) → self.old.count ≤ head → head ≢ list → link_at self.new.next.items head ≡ link_at self.old.next.items head }
+        ensures nodes { length self.new.next.items ≡ length self.old.next.items }
+        ensures count { self.new.count ≡ self.old.count }
+    {
+        let last = self.prev[list as usize];
+        if last == list {
+            return None;
+        }
+        self.unlink(last);
+        Some(last)
+    }
+
     // Takes a place out of the list where it is, if it is in one.
     fn unlink(&mut self, place: u32)
         requires { place < self.old.count }
