@@ -82,6 +82,7 @@ module _ (label : Label) (p : Portion) (takes pending : Places) (values : List V
       offers = λ arcs b all below to o other among l. absurd (no_item p.ranks to o among);
       within = λ to o other among. absurd (no_item p.ranks to o among);
     };
+    addressed = λ to o other among. absurd (no_item p.ranks to o among);
   }
 
   pub opening_kept : HasRelaxed label p takes (nothing p.ranks) (nothing p.ranks) values pending None 0 None false false
