@@ -88,6 +88,7 @@ module _ (label : Label) (p : Portion) (takes pending : Places) (values : List V
   pub opening_kept : HasRelaxed label p takes (nothing p.ranks) (nothing p.ranks) values pending None 0 None false false
   opening_kept = record {
     relaxes = opening_relaxes;
+    resting = λ vote e. refl;
     marked = record {
       from_each = length-replicate p.ranks [];
       to_each = length-replicate p.ranks [];
@@ -95,6 +96,7 @@ module _ (label : Label) (p : Portion) (takes pending : Places) (values : List V
       closed = λ e. cc;
       given = λ to other. ap marks (none_at p.ranks to);
       even = λ to k vote other is. absurd (no_vote k vote (subst (λ l. slice_get (votes_of l) k ≡ Some vote) (none_at p.ranks to) is));
+      cast_even = λ vote e. cc;
       present = (λ e r h. ap (items_of_round 0) (none_at p.ranks r), λ none. refl);
       after = λ vote e. cc;
       quiet = λ vote e. cc;

@@ -15,11 +15,12 @@ use Rattle.pg_relax.specs.declared.ahead.Ahead.{Ahead}
 use Rattle.pg_relax.specs.Tables.{value_at}
 use Rattle.pg_relax.specs.States.{part_of, due, Relaxes}
 
--- Parts 1 to 3 of the law of relaxation, and its fourth on marks and votes.
+-- The law of relaxation over these lists, and what it says of marks and votes. Once the vote is cast nothing is being relaxed.
 pub record HasRelaxed (label : Label) (p : Portion) (takes : Places) (handled sent : List (List (Body Offer))) (values : List Value) (pending : Places) (ahead : Option Ahead)
     (round : ℕ) (cast : Option Vote) (ended sends : Bool) : Type 0 where
   pub relaxes : Relaxes label p takes handled sent values pending ahead
   pub marked : Marks (part_of p) handled sent (due p pending takes ahead) round cast ended sends
+  pub resting : (vote : Vote) → cast ≡ Some vote → ahead ≡ None
 
 -- Each own vertex that starts has its start's value and is pending, and no other place has a value or is pending.
 pub record IsOpening (label : Label) (p : Portion) (values : List Value) (pending : Places) : Type 0 where
