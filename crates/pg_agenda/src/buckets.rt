@@ -3,7 +3,7 @@ ghost use Rattle.pg_agenda.specs.Shares.{NONE, AreNone, AreSame};
 ghost use Rattle.pg_agenda.specs.declared.shares.Share.{Share};
 ghost use Rattle.pg_agenda.specs.declared.shares.Share.TheVariants.{Light, Heavy, All};
 ghost use Rattle.pg_agenda.specs.LevelLists.{is_set, is_any};
-ghost use Rattle.pg_agenda.specs.BucketPhases.{bucket_of, by_bucket, ready_by, takes_by, IsLowest, next_agreement};
+ghost use Rattle.pg_agenda.specs.BucketPhases.{bucket_of, by_bucket, ready_by, takes_by, IsBucketVote, IsLowest, next_agreement};
 ghost use Rattle.pg_agenda.specs.BucketQueues.{is_near};
 
 use crate::agreements::Agreement;
@@ -99,8 +99,8 @@ fn buckets_of(alloc: Global, count: u32, delta: u32) -> Result<Buckets, AllocErr
 }
 
 impl Agenda for Buckets {
-    ghost use Rattle.std.specs.Prelude.{length};
-    ghost use Rattle.pg_agenda.specs.BucketPhases.{by_bucket, ready_by, takes_by};
+    ghost use Rattle.std.specs.Prelude.{◌≡◌, length};
+    ghost use Rattle.pg_agenda.specs.BucketPhases.{IsBucketVote, by_bucket, next_agreement, ready_by, takes_by};
 
     ghost count = { λ a. length a.light.buckets.items };
 
@@ -109,6 +109,10 @@ impl Agenda for Buckets {
     ghost ready = { λ a. ready_by a.agreed a.light.buckets.items a.heavy.members.items };
 
     ghost takes = { λ a. takes_by a.delta };
+
+    ghost IsVote = { λ a. IsBucketVote a.light.buckets.items a.heavy.members.items };
+
+    ghost HasBegun = { λ old votes new. new.agreed ≡ next_agreement votes old.agreed };
 
     fn mark(&mut self, place: u32, amount: u64)
         requires place { place < length self.old.light.buckets.items }
@@ -166,6 +170,7 @@ impl Agenda for Buckets {
     }
 
     fn vote(&mut self, sent: bool) -> Vote
+        ensures form { IsBucketVote self.old.light.buckets.items self.old.heavy.members.items sent result }
         ensures odd { (result.b % 2 ≡ 1) ↔ (sent ≡ true) }
         ensures none { result.a ≡ NONE → result.b < 2 → AreNone (by_bucket self.old.light.buckets.items self.old.heavy.members.items) }
         ensures c { result.c ≡ 0 }
@@ -190,6 +195,7 @@ impl Agenda for Buckets {
     }
 
     fn begin(&mut self, votes: &[Vote])
+        ensures begun { self.new.agreed ≡ next_agreement votes.now self.old.agreed }
         ensures rests { AreSame (by_bucket self.old.light.buckets.items self.old.heavy.members.items) (by_bucket self.new.light.buckets.items self.new.heavy.members.items) }
         ensures same_count { length self.new.light.buckets.items ≡ length self.old.light.buckets.items }
         ensures same_takes { (share : Share) (w : ℕ) → takes_by self.new.delta share w ≡ takes_by self.old.delta share w }

@@ -22,6 +22,10 @@ module _ {L A : Type 0} {l : LabelGhosts L} {a : AgendaGhosts A} where
   abbrev pub label_in : Relax L A l a → L
   label_in r = r.label
 
+  -- its agenda
+  abbrev pub agenda_in : Relax L A l a → A
+  agenda_in r = r.frontier.agenda
+
   abbrev pub state_of : Relax L A l a → State
   state_of r = record {
     part = r.part;
