@@ -1,5 +1,5 @@
 -- What an item of relaxation is: a place is taken up, or at least one arc ahead is passed. And what handling an offer does.
-use Rattle.std.specs.Prelude.{◌≡◌, ◌⊎◌, ◌<◌, ℕ, true, false, Option, Some, None, List, ⊤}
+use Rattle.std.specs.Prelude.{◌≡◌, ◌⊎◌, ◌<◌, ℕ, true, false, Option, Some, None, List, length, ⊤}
 use Rattle.pg_label.specs.declared.values.Value.{Value}
 use Rattle.pg_agenda.specs.declared.shares.Share.{Share}
 use Rattle.pg_agenda.specs.Shares.{Places, AreSame}
@@ -8,19 +8,27 @@ use Rattle.pg_best.specs.declared.offers.Offer.{Offer}
 use Rattle.pg_relax.specs.declared.ahead.Ahead.{Ahead}
 use Rattle.pg_relax.specs.Frontiers.{IsLowered}
 use Rattle.pg_relax.specs.Kept.{IsFitting}
+use Rattle.pg_relax.specs.States.{row}
 
--- A place that was pending for a share is no more.
-pub record IsTakenUp (pending pending' : Places) : Type 0 where
+-- The arcs of the place are ahead from the first one on, for this share; or it has no arcs.
+abbrev pub IsRowAhead : Portion → ℕ → Share → Option Ahead → Type 0
+IsRowAhead p place share None = length (row p place) ≡ 0
+IsRowAhead p place share (Some h) = h ≡ record { place = place; share = share; next = 0 }
+
+-- A place that was ready for a share, and pending for it, is pending for it no more, and its arcs are ahead.
+pub record IsTakenUp (p : Portion) (ready pending pending' : Places) (ahead' : Option Ahead) : Type 0 where
   pub place : ℕ
   pub share : Share
+  pub turn : ready share place ≡ true
   pub was : pending share place ≡ true
   pub taken : pending' share place ≡ false
+  pub ahead : IsRowAhead p place share ahead'
 
--- A place is taken up; or the same one is being relaxed, from a later arc on; or its arcs are all passed.
-abbrev pub IsItem : Places → Places → Option Ahead → Option Ahead → Type 0
-IsItem pending pending' None ahead = IsTakenUp pending pending'
-IsItem pending pending' (Some h) None = ⊤
-IsItem pending pending' (Some h) (Some k) = (k.place ≡ h.place) × (h.next < k.next)
+-- A ready place is taken up; or the same one is being relaxed, for the same share, from a later arc on; or its arcs are all passed.
+abbrev pub IsItem : Portion → Places → Places → Places → Option Ahead → Option Ahead → Type 0
+IsItem p ready pending pending' None ahead = IsTakenUp p ready pending pending' ahead
+IsItem p ready pending pending' (Some h) None = ⊤
+IsItem p ready pending pending' (Some h) (Some k) = (k.place ≡ h.place) × (k.share ≡ h.share) × (h.next < k.next)
 
 -- An offer whose place doesn't hold its vertex, or whose value is past the limits, changes nothing.
 pub record IsIgnored (p : Portion) (offer : Offer) (values : List Value) (pending : Places) (values' : List Value) (pending' : Places) : Type 0 where

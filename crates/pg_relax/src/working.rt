@@ -36,7 +36,7 @@ fn if_left(part: &Part, ahead: Ahead) -> Option<Ahead>
 pub(crate) fn take_up<A: Agenda>(part: &Part, frontier: &mut Frontier<A>) -> Option<Option<Ahead>>
     requires { length frontier.old.table.values.items ≡ length part.now.vertices }
     ensures none { IfNone result (AreNone (A.ready frontier.new.agenda)) }
-    ensures taken { IfSome result (λ _. IsTakenUp (A.pending frontier.old.agenda) (A.pending frontier.new.agenda)) }
+    ensures taken { IfSome result (IsTakenUp part.now (A.ready frontier.old.agenda) (A.pending frontier.old.agenda) (A.pending frontier.new.agenda)) }
     ensures values { IfNone result (frontier.new.table.values.items ≡ frontier.old.table.values.items) }
     ensures pending { IfNone result (AreSame (A.pending frontier.old.agenda) (A.pending frontier.new.agenda)) }
     ensures takes { AreSame (A.takes frontier.old.agenda) (A.takes frontier.new.agenda) }
@@ -91,7 +91,7 @@ pub(crate) fn go_on<L: Label, A: Agenda, O: Outbox<Offer>>(
         → AreOffered part.now (O.sent out.new) offered.new.table.values.items }
     ensures sent { result.sent ≡ true → (to : _) × (offer : Offer) × IsOther part.now.rank part.now.ranks to × (O.sent out.new ≡ append_at (O.sent out.old) to (Item offer)) }
     ensures unsent { result.sent ≡ false → O.sent out.new ≡ O.sent out.old }
-    ensures more { OnMore result.worked (IsItem (A.pending frontier.old.agenda) (A.pending frontier.new.agenda) (Some ahead) result.ahead) }
+    ensures more { OnMore result.worked (IsItem part.now (A.ready frontier.old.agenda) (A.pending frontier.old.agenda) (A.pending frontier.new.agenda) (Some ahead) result.ahead) }
     ensures not_idle { OnIdle result.worked ⊥ }
     ensures blocked { OnBlocked result.worked (λ to. IsOther part.now.rank part.now.ranks to × O.saw_full out.old to out.new) }
     ensures blocked_did { OnBlocked result.worked (λ _. (frontier.new ≡ frontier.old) × (offered.new ≡ offered.old) × (result.ahead ≡ Some ahead) × (result.sent ≡ false)) }
