@@ -11,7 +11,7 @@ use Rattle.pg_group.specs.Supersteps.{nothing}
 use Rattle.pg_label.specs.declared.values.Value.{Value}
 use Rattle.pg_label.specs.Values.{HasAtMost, IsWithin, start_value}
 use Rattle.pg_agenda.specs.declared.shares.Share.TheVariants as share
-use Rattle.pg_agenda.specs.Shares.{Places}
+use Rattle.pg_agenda.specs.Shares.{Places, AreSame}
 use Rattle.pg_adj.specs.Portions.{Portion}
 use Rattle.pg_best.specs.declared.offers.Offer.{Offer}
 use Rattle.pg_best.specs.Best.{Label, Belongs}
@@ -147,7 +147,12 @@ not_started label p n values pending none o = record {
     | inl before ↦ o.none i before s
     | inr now ↦ o.later i (omega arith)
   ];
+  rests = λ i k h s. elim (below_next i n h) [
+    | inl before ↦ o.rests i k before s
+    | inr now ↦ o.past i k (omega arith)
+  ];
   later = λ i h. o.later i (omega arith);
+  past = λ i k h. o.past i k (omega arith);
 }
 
 -- a place whose vertex starts is lowered
@@ -178,13 +183,18 @@ next_started label p n class values values' pending pending' some within low o =
           | inl same ↦ absurd (some_none class (sym some ∙ (ap (λ j. label.start (slice_index p.vertices j)) (sym same) ∙ s)))
           | inr apart ↦ else i apart ∙ o.none i (omega arith) s
         ];
+        rests = λ i k h s. elim (cases_eq i n) [
+          | inl same ↦ absurd (some_none class (sym some ∙ (ap (λ j. label.start (slice_index p.vertices j)) (sym same) ∙ s)))
+          | inr apart ↦ fell.others k i apart ∙ o.rests i k (omega arith) s
+        ];
         later = λ i h. else i (λ e. absurd (omega arith)) ∙ o.later i (omega arith);
+        past = λ i k h. fell.others k i (λ e. absurd (omega arith)) ∙ o.past i k (omega arith);
       }
 ]
 
 -- all places are opened
 pub all_opened : (label : Label) (p : Portion) (values : List Value) (pending : Places) → IsOpenBelow (length p.vertices) label p values pending → IsOpening label p values pending
-all_opened label p values pending o = record { value = o.value; marked = o.marked; none = o.none }
+all_opened label p values pending o = record { value = o.value; marked = o.marked; none = o.none; rests = o.rests; past = o.past }
 
 -- one place more is opened
 pub opened_next : (label : Label) (p : Portion) (n : ℕ) (values values' : List Value) (pending pending' : Places) → n < length values
@@ -195,3 +205,16 @@ opened_next label p n values values' pending pending' within started stays o = g
   go : (s : Option ℕ) → label.start (slice_index p.vertices n) ≡ s → IsOpenBelow (n + 1) label p values' pending'
   go None e = not_started label p n values' pending' e (stays e o)
   go (Some class) e = next_started label p n class values values' pending pending' e within (started class e) o
+
+-- the same places are pending
+pub opening_same : (label : Label) (p : Portion) (values : List Value) (pending pending' : Places) → AreSame pending pending' → IsOpening label p values pending → IsOpening label p values pending'
+opening_same label p values pending pending' same o = record {
+  value = o.value;
+  marked = λ i class h s. elim (o.marked i class h s) [
+    | inl whole ↦ inl (same share.All i ∙ whole)
+    | inr light ↦ inr (same share.Light i ∙ light)
+  ];
+  none = o.none;
+  rests = λ i k h s. same k i ∙ o.rests i k h s;
+  past = λ i k h. same k i ∙ o.past i k h;
+}
