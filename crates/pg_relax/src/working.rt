@@ -95,6 +95,7 @@ pub(crate) fn go_on<L: Label, A: Agenda, O: Outbox<Offer>>(
     ensures not_idle { OnIdle result.worked ⊥ }
     ensures blocked { OnBlocked result.worked (λ to. IsOther part.now.rank part.now.ranks to × O.saw_full out.old to out.new) }
     ensures blocked_did { OnBlocked result.worked (λ _. (frontier.new ≡ frontier.old) × (offered.new ≡ offered.old) × (result.ahead ≡ Some ahead) × (result.sent ≡ false)) }
+    ensures takes { AreSame (A.takes frontier.old.agenda) (A.takes frontier.new.agenda) }
     ensures next_place { ForSome result.ahead (λ h. h.place < length part.now.vertices) }
     ensures next { ForSome result.ahead (λ h. h.next < length (row part.now h.place)) }
     ensures same_count { length frontier.new.table.values.items ≡ length frontier.old.table.values.items }
