@@ -2,6 +2,7 @@
 ghost use Rattle.std.specs.Prelude.{◌≡◌, ◌<◌, ◌≤◌, Some, None, length, IfNone, IfSome};
 ghost use Rattle.pg_label.specs.Values.{IsWithin};
 ghost use Rattle.pg_agenda.specs.Shares.{AreSame};
+ghost use Rattle.pg_relax.specs.Offered.{FindsGhosts};
 ghost use Rattle.pg_relax.specs.Passing.{Extends, ExtendsNone, IsPassed, IsOfferOf, IsUpTo, KeepsOver, OnAll, OnUpTo, from_arc};
 ghost use Rattle.pg_relax.specs.States.{label_of};
 
@@ -42,6 +43,7 @@ fn pass<L: Label, A: Agenda>(
     requires place { ahead.place < length frontier.old.table.values.items }
     requires target { arc.now.home.0 ≡ part.now.rank → arc.now.place < length frontier.old.table.values.items }
     requires each_ghost { length offered.now.table.values.items ≡ length part.now.ghosts }
+    requires finds { FindsGhosts part.now.ghosts offered.now.slots.items }
     ensures passed { IfNone result (IsPassed (L.add label.now) part.now offered.now.table.values.items (A.takes frontier.old.agenda) ahead.place ahead.share arc.now
         frontier.old.table.values.items (A.pending frontier.old.agenda) frontier.new.table.values.items (A.pending frontier.new.agenda)) }
     ensures offer { IfSome result (IsOfferOf (L.add label.now) part.now.rank ahead.place frontier.old.table.values.items arc.now) }
@@ -79,6 +81,7 @@ pub(crate) fn next_offer<L: Label, A: Agenda>(
     requires place { ahead.place < length part.now.vertices }
     requires each { length frontier.old.table.values.items ≡ length part.now.vertices }
     requires each_ghost { length offered.now.table.values.items ≡ length part.now.ghosts }
+    requires finds { FindsGhosts part.now.ghosts offered.now.slots.items }
     ensures all { OnAll result (KeepsOver offered.now.table.values.items (label_of (L.start label.now) (L.add label.now)) part.now
         (A.takes frontier.old.agenda) frontier.old.table.values.items (A.pending frontier.old.agenda) (Some ahead)
         (A.takes frontier.new.agenda) frontier.new.table.values.items (A.pending frontier.new.agenda) None) }

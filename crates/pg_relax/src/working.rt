@@ -8,7 +8,7 @@ ghost use Rattle.pg_group.specs.Supersteps.{AreUnmarked, OnMore, OnIdle, OnBlock
 ghost use Rattle.pg_agenda.specs.Shares.{AreNone, AreSame};
 ghost use Rattle.pg_best.specs.declared.offers.Offer.{Offer};
 ghost use Rattle.pg_relax.specs.Items.{IsItem, IsTakenUp};
-ghost use Rattle.pg_relax.specs.Offered.{AreOffered};
+ghost use Rattle.pg_relax.specs.Offered.{AreOffered, FindsGhosts};
 ghost use Rattle.pg_relax.specs.Passing.{KeepsOn};
 ghost use Rattle.pg_relax.specs.States.{Relaxes, label_of, row};
 
@@ -80,6 +80,7 @@ pub(crate) fn go_on<L: Label, A: Agenda, O: Outbox<Offer>>(
     requires place { ahead.place < length part.now.vertices }
     requires each { length frontier.old.table.values.items ≡ length part.now.vertices }
     requires each_ghost { length offered.old.table.values.items ≡ length part.now.ghosts }
+    requires finds { FindsGhosts part.now.ghosts offered.old.slots.items }
     requires own { O.own out.old ≡ part.now.rank }
     requires size { O.size out.old ≡ part.now.ranks }
     requires unmarked { AreUnmarked (O.marks_sent out.old) }
@@ -99,6 +100,7 @@ pub(crate) fn go_on<L: Label, A: Agenda, O: Outbox<Offer>>(
     ensures next_place { ForSome result.ahead (λ h. h.place < length part.now.vertices) }
     ensures next { ForSome result.ahead (λ h. h.next < length (row part.now h.place)) }
     ensures same_count { length frontier.new.table.values.items ≡ length frontier.old.table.values.items }
+    ensures same_slots { offered.new.slots ≡ offered.old.slots }
     ensures same_ghosts { length offered.new.table.values.items ≡ length offered.old.table.values.items }
     ensures out_own { O.own out.new ≡ O.own out.old }
     ensures out_size { O.size out.new ≡ O.size out.old }

@@ -15,5 +15,5 @@ returns-clause-new g c = record {
   idle = refl;
   ended = refl;
   sends = refl;
-  unoffered = λ slot. ap (λ vs. value_at vs slot) c.in-Ok-new.ensures ∙ nothing_stands (length c.args.part.ghosts) slot;
+  unoffered = λ slot. ap (λ vs. value_at vs slot) c.in-Ok-new.ensures.nothing ∙ nothing_stands (length c.args.part.ghosts) slot;
 }
