@@ -7,7 +7,11 @@ use Rattle.pg_adj.specs.Portions.{Portion}
 use Rattle.pg_best.specs.declared.offers.Offer.{Offer}
 use Rattle.pg_relax.specs.declared.ahead.Ahead.{Ahead}
 use Rattle.pg_relax.specs.Frontiers.{IsLowered}
+use Rattle.pg_group.specs.declared.messages.Body.{Body}
+use Rattle.pg_group.specs.declared.messages.Body.TheVariants.{Item}
+use Rattle.pg_group.specs.Ranked.{append_at}
 use Rattle.pg_relax.specs.Kept.{IsFitting}
+use Rattle.pg_relax.specs.Offered.{IsKnown, IsNoted}
 use Rattle.pg_relax.specs.States.{row}
 
 -- The arcs of the place are ahead from the first one on, for this share; or it has no arcs.
@@ -29,6 +33,18 @@ abbrev pub IsItem : Portion → Places → Places → Places → Option Ahead �
 IsItem p ready pending pending' None ahead = IsTakenUp p ready pending pending' ahead
 IsItem p ready pending pending' (Some h) None = ⊤
 IsItem p ready pending pending' (Some h) (Some k) = (k.place ≡ h.place) × (k.share ≡ h.share) × (h.next < k.next)
+
+-- An offer is sent to whose vertex nothing as low was offered before, and it is noted.
+pub record SendsNew (p : Portion) (sent : List (List (Body Offer))) (offered : List Value) (sent' : List (List (Body Offer))) (offered' : List Value) : Type 0 where
+  pub to : ℕ
+  pub offer : Offer
+  pub appended : sent' ≡ append_at sent to (Item offer)
+  pub unknown : IsKnown p offered to offer → ⊥
+  pub noted : IsNoted p to offer offered offered'
+
+-- At most one offer is sent, and none that is no better than one before.
+abbrev pub SendsOnlyNew : Portion → List (List (Body Offer)) → List Value → List (List (Body Offer)) → List Value → Type 0
+SendsOnlyNew p sent offered sent' offered' = ((sent' ≡ sent) × (offered' ≡ offered)) ⊎ SendsNew p sent offered sent' offered'
 
 -- An offer whose place doesn't hold its vertex, or whose value is past the limits, changes nothing.
 pub record IsIgnored (p : Portion) (offer : Offer) (values : List Value) (pending : Places) (values' : List Value) (pending' : Places) : Type 0 where

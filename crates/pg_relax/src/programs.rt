@@ -40,7 +40,7 @@ impl<L: Label + Send, A: Agenda + Send> Program for Relax<L, A> {
     ghost use Rattle.pg_relax.specs.Rounds.{count_of};
     ghost use Rattle.pg_relax.specs.Kept.{IsNarrow};
     ghost use Rattle.pg_relax.specs.Shown.{IsNewRelax, KeepsRelaxed};
-    ghost use Rattle.pg_relax.specs.Items.{IsHandled, IsItem};
+    ghost use Rattle.pg_relax.specs.Items.{IsHandled, IsItem, SendsOnlyNew};
     ghost use Rattle.pg_agenda.specs.Shares.{AreNone, AreSame};
 
     type Body = Offer;
@@ -61,7 +61,8 @@ impl<L: Label + Send, A: Agenda + Send> Program for Relax<L, A> {
 
     ghost Keeps = { KeepsRelaxed };
 
-    ghost DidItem = { λ old sent new more. IsItem old.part (A.ready old.frontier.agenda) (A.pending old.frontier.agenda) (A.pending new.frontier.agenda) old.ahead new.ahead };
+    ghost DidItem = { λ old sent new more. IsItem old.part (A.ready old.frontier.agenda) (A.pending old.frontier.agenda) (A.pending new.frontier.agenda) old.ahead new.ahead
+        × SendsOnlyNew old.part sent old.offered.table.values.items more new.offered.table.values.items };
 
     ghost DidHandle = { λ old from offer new. IsHandled old.part offer old.frontier.table.values.items (A.pending old.frontier.agenda) new.frontier.table.values.items (A.pending new.frontier.agenda) };
 
@@ -147,6 +148,7 @@ impl<L: Label + Send, A: Agenda + Send> Program for Relax<L, A> {
         ensures same_own { ⟦<Relax<L, A> as Program>⟧.own self.new ≡ ⟦<Relax<L, A> as Program>⟧.own self.old }
         ensures same_size { ⟦<Relax<L, A> as Program>⟧.size self.new ≡ ⟦<Relax<L, A> as Program>⟧.size self.old }
     {
+        // For the facts that it ensures.
         let _rank = self.part.rank();
         if are_quiet(votes) {
             self.ended = true;

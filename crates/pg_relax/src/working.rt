@@ -7,7 +7,7 @@ ghost use Rattle.pg_group.specs.Ranked.{IsOther, append_at};
 ghost use Rattle.pg_group.specs.Supersteps.{AreUnmarked, OnMore, OnIdle, OnBlocked};
 ghost use Rattle.pg_agenda.specs.Shares.{AreNone, AreSame};
 ghost use Rattle.pg_best.specs.declared.offers.Offer.{Offer};
-ghost use Rattle.pg_relax.specs.Items.{IsItem, IsTakenUp};
+ghost use Rattle.pg_relax.specs.Items.{IsItem, IsTakenUp, SendsOnlyNew};
 ghost use Rattle.pg_relax.specs.Offered.{AreOffered, FindsGhosts};
 ghost use Rattle.pg_relax.specs.Passing.{KeepsOn};
 ghost use Rattle.pg_relax.specs.States.{Relaxes, label_of, row};
@@ -92,6 +92,7 @@ pub(crate) fn go_on<L: Label, A: Agenda, O: Outbox<Offer>>(
         → AreOffered part.now (O.sent out.new) offered.new.table.values.items }
     ensures sent { result.sent ≡ true → (to : _) × (offer : Offer) × IsOther part.now.rank part.now.ranks to × (O.sent out.new ≡ append_at (O.sent out.old) to (Item offer)) }
     ensures unsent { result.sent ≡ false → O.sent out.new ≡ O.sent out.old }
+    ensures only_new { SendsOnlyNew part.now (O.sent out.old) offered.old.table.values.items (O.sent out.new) offered.new.table.values.items }
     ensures more { OnMore result.worked (IsItem part.now (A.ready frontier.old.agenda) (A.pending frontier.old.agenda) (A.pending frontier.new.agenda) (Some ahead) result.ahead) }
     ensures not_idle { OnIdle result.worked ⊥ }
     ensures blocked { OnBlocked result.worked (λ to. IsOther part.now.rank part.now.ranks to × O.saw_full out.old to out.new) }
