@@ -19,9 +19,9 @@ use std::alloc::{AllocError, Global};
 ///
 /// The pending places of 1,024 buckets, the window, stand in a list for each bucket, the others in one far list. `mark`
 /// and `pop` take constant time. `vote` takes a pass over the window's buckets, and one over the far list where the least
-/// bucket may be there and the far place that was known to have it has left it. `begin` takes a pass over the votes; where
-/// the agreed bucket isn't one of the window it moves the window there, in a pass over its buckets and all places that are
-/// pending for light arcs: those of the far list, where the votes have this rank's own and the bucket is a greater one.
+/// bucket may be there and the far place that was known to have it has left it. `begin` takes a pass over the votes. Where
+/// the agreed bucket isn't one of the window, the window moves there, in a pass over its lists and over each place that is
+/// in a bucket; where it moves on to a greater bucket in a run, only the far places are left in one.
 ///
 /// Source: Meyer and Sanders, Delta-stepping: a parallelizable shortest path algorithm (Journal of Algorithms 49, 2003).
 #[derive(Drop)]
