@@ -42,8 +42,8 @@ sharing_laws = record {
 }
 
 -- One row of one item.
-one_row : {X : Type 0} (rows : ℕ → List X) (x : X) → x ∷ [] ≡ rows 0 → AreRows rows 1 (0 ∷ 1 ∷ []) (x ∷ [])
-one_row rows x is = record {
+one_row : {X : Type 0} (items : ℕ → List X) (x : X) → x ∷ [] ≡ items 0 → AreRows items 1 (0 ∷ 1 ∷ []) (x ∷ [])
+one_row items x is = record {
   bounded = record { each = refl; ascend = only (λ i. get_or (0 ∷ 1 ∷ []) i 0 ≤ get_or (0 ∷ 1 ∷ []) (i + 1) 0) (omega arith); within = λ i l. both (λ k. get_or (0 ∷ 1 ∷ []) k 0 ≤ 1) (omega arith) (omega arith) i (omega arith) };
   first = refl;
   last = refl;
