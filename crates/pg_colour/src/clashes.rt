@@ -1,38 +1,52 @@
 //! Which vertices are coloured again.
-use pg_adj::{Arc, Part};
+ghost use Rattle.std.specs.Prelude.{◌≡◌, ◌↔◌, ℕ, ◌<◌, ◌≤◌, true, length, slice_index, AllPairs, Contains};
+ghost use Rattle.std.specs.Vec.{vec_capacity};
+ghost use Rattle.pg_adj.specs.ArcSlots.{AreSlotsOf};
+ghost use Rattle.pg_cells.specs.Shown.{state_of};
+ghost use Rattle.pg_colour.specs.Passes.{IsClash};
+ghost use Rattle.pg_colour.specs.Seen.{at_places, at_slots};
+
+use crate::neighbours::seen;
+use pg_adj::Part;
 use pg_cells::{Cells, LastWins};
 
-// Whether the arc leads from `v`, which has this colour, to a lesser ghost of the same colour.
-fn clashes_with(
-    cells: &Cells<LastWins>,
-    v: u32,
-    colour: u64,
-    arc: &Arc,
-    slot: Option<u32>,
-) -> bool {
-    match slot {
-        Some(slot) => arc.to.0 < v && cells.at_slot(slot) == Some(colour),
-        None => false,
-    }
-}
-
-// Whether a lesser ghost that is joined to the vertex at the place has its colour.
-fn clashes(part: &Part, cells: &Cells<LastWins>, slots: &[Option<u32>], place: u32) -> bool {
-    let v = part.vertex(place).0;
+// Whether the vertex at the place has a lesser neighbour of another rank that is seen with its colour.
+fn clashes(part: &Part, cells: &Cells<LastWins>, slots: &[Option<u32>], place: u32) -> bool
+    requires cells { cells.now.part.value ≡ part.now }
+    requires place { place < length part.now.vertices }
+    requires slots { AreSlotsOf part.now.ghosts part.now.arcs slots.now }
+    ensures { (result ≡ true) ↔ IsClash part.now (at_places (state_of cells.now).own) (at_slots (state_of cells.now).ghosts) place }
+{
+    let v = part.vertex(place);
     let colour = cells.at_place(place);
-    part.arcs(place)
-        .iter()
-        .zip(part.beside(place, slots))
-        .any(|(arc, slot)| clashes_with(cells, v, colour, arc, *slot))
+    let slots = part.beside(place, slots);
+    let _n = part.n();
+    for (k, arc) in part.arcs(place).iter().enumerate() {
+        if let Some(slot) = slots[k] {
+            if arc.to < v && seen(cells, slot) == colour {
+                return true;
+            }
+        }
+    }
+    false
 }
 
-/// Leaves in the list each own vertex with a lesser ghost neighbour of the same colour, by its place, ascending.
+/// Leaves in the list the places of the vertices with a lesser neighbour of another rank that is seen with their colour, in
+/// ascending order.
 pub(crate) fn list_clashes(
     part: &Part,
     cells: &Cells<LastWins>,
     slots: &[Option<u32>],
     list: &mut Vec<u32>,
-) {
+)
+    requires cells { cells.now.part.value ≡ part.now }
+    requires slots { AreSlotsOf part.now.ghosts part.now.arcs slots.now }
+    requires room { length part.now.vertices ≤ vec_capacity list.old }
+    ensures clashes { (place : ℕ) → Contains list.new.items place ↔ ((place < length part.now.vertices) × IsClash part.now (at_places (state_of cells.now).own) (at_slots (state_of cells.now).ghosts) place) }
+    ensures ascend { AllPairs (λ k l. k < l) list.new.items }
+    ensures few { length list.new.items ≤ length part.now.vertices }
+    ensures room { vec_capacity list.new ≡ vec_capacity list.old }
+{
     list.clear();
     for place in 0..part.count() {
         if clashes(part, cells, slots, place) {

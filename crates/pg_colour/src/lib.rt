@@ -11,5 +11,9 @@ mod programs;
 mod rounds;
 #[cfg(test)]
 mod tests;
+mod working;
 
 pub use colouring::Colouring;
+
+/// Stands where a vertex has no colour. Colours are lesser.
+pub const NO_COLOUR: u64 = u64::MAX;

@@ -1,39 +1,25 @@
 //! Colouring as a rank program.
+ghost use Rattle.std.specs.Prelude.{◌≡◌, true, false};
+ghost use Rattle.pg_colour.specs.Steps.{AreNothing};
+
 use crate::Colouring;
-use crate::clashes::list_clashes;
-use crate::neighbours::least_free;
 use pg_base::{RankNo, Ranks};
-use pg_cells::{CellBody, Phase};
+use pg_cells::CellBody;
 use pg_group::{Narrow, Next, Outbox, Program, Vote, Worked};
 
-impl Colouring {
-    // Gives the next vertex of the list the least colour that no neighbour has. Answers whether there was one.
-    fn colour_next(&mut self) -> bool {
-        let Some(place) = self.list.get(self.next).copied() else {
-            return false;
-        };
-        let colour = least_free(
-            &self.part,
-            &self.cells,
-            &self.slots,
-            place,
-            &mut self.palette,
-        );
-        self.cells.put_at(place, colour);
-        self.next += 1;
-        true
-    }
-
-    // Whether this is a round in which the cells are refreshed.
-    fn refreshes(&self) -> bool {
-        self.cells.phase() == Phase::Refreshing
-    }
+// Whether no rank had a vertex to colour.
+fn are_nothing(votes: &[Vote]) -> bool
+    ensures nothing { result ≡ true → AreNothing votes.now }
+    ensures not { result ≡ false → AreNothing votes.now → ⊥ }
+{
+    votes.iter().all(|vote| vote.a == 0)
 }
 
 impl Program for Colouring {
     ghost use Rattle.std.specs.Prelude.{◌≡◌};
     ghost use Rattle.pg_colour.specs.Rounds.{count_of};
-    ghost use Rattle.pg_colour.specs.Shown.{IsNewColouring, KeepsColoured, IsNarrow};
+    ghost use Rattle.pg_colour.specs.Shown.{IsNewColouring, KeepsColoured, state_of};
+    ghost use Rattle.pg_colour.specs.Steps.{DoesOne, Handles, IsDone, IsNarrow};
 
     type Body = CellBody;
 
@@ -53,15 +39,15 @@ impl Program for Colouring {
 
     ghost Keeps = { KeepsColoured };
 
-    ghost DidItem = { λ old sent new more. old.part ≡ new.part };
+    ghost DidItem = { λ old sent new more. DoesOne old.part (state_of old) (state_of new) sent more };
 
-    ghost DidHandle = { λ old from body new. old.part ≡ new.part };
+    ghost DidHandle = { λ old from body new. Handles old.part body (state_of old) (state_of new) };
 
-    ghost DidNothing = { λ old new. old.part ≡ new.part };
+    ghost DidNothing = { λ old new. (new.part ≡ old.part) × (state_of new ≡ state_of old) };
 
     ghost IsVote = { IsNarrow };
 
-    ghost NothingLeft = { λ c. c.part ≡ c.part };
+    ghost NothingLeft = { λ c. IsDone c.part (state_of c) };
 
     fn rank(&self) -> RankNo {
         self.part.rank()
@@ -78,15 +64,13 @@ impl Program for Colouring {
     }
 
     fn work<O: Outbox<CellBody>>(&mut self, out: &mut O) -> Worked {
-        let worked = if self.refreshes() {
-            self.cells.work(out)
+        if self.refreshes() {
+            self.refresh_next(out)
         } else if self.colour_next() {
             Worked::More
         } else {
             Worked::Idle
-        };
-        self.idle = worked == Worked::Idle;
-        worked
+        }
     }
 
     fn vote(&mut self) -> Vote {
@@ -107,20 +91,14 @@ impl Program for Colouring {
 
     fn round_end(&mut self, votes: &[Vote]) -> Next {
         if self.refreshes() {
-            self.cells.end_round();
-            list_clashes(&self.part, &self.cells, &self.slots, &mut self.list);
-            self.next = 0;
-        } else {
-            if votes.iter().all(|vote| vote.a == 0) {
-                self.ended = true;
-                return Next::Stop;
-            }
-            self.cells.close();
-            self.cells.end_round();
+            self.begin_pass();
+            return Next::Again;
         }
-        self.rounds.count();
-        self.cast = None;
-        self.idle = false;
+        if are_nothing(votes) {
+            self.ended = true;
+            return Next::Stop;
+        }
+        self.begin_refresh();
         Next::Again
     }
 }
