@@ -1,0 +1,5 @@
+pub mod Passes
+pub mod Refreshed
+pub mod LocalColour
+pub mod Steps
+pub mod Whole

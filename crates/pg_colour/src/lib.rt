@@ -1,0 +1,8 @@
+//! Colouring over ranks: a rank program that colours its own vertices by first fit, looks at the colours of the other
+//! ranks' vertices through ghost cells, and colours again where the two ends of an edge came out alike.
+#![tactic(auto)]
+
+pub mod laws;
+
+/// Stands where a vertex has no colour. Colours are lesser.
+pub const NO_COLOUR: u64 = u64::MAX;
