@@ -96,7 +96,7 @@ pub record EndsWell (part : Portion) (handled : List (List (Body CellBody))) (h 
 pub record AreColoured (part : Portion) (handled sent : List (List (Body CellBody))) (h : History) (s : State) : Type 0 where
   pub passes : ArePasses part handled s.round h
   pub present : IsPresent part handled h s
-  pub sent : AreSent part sent h s
+  pub sends : AreSent part sent h s
   pub ending : EndsWell part handled h s
 
 -- Where something else was handled than refreshes from their homes, it is only said that refreshes alone are sent.
