@@ -1,5 +1,5 @@
 mod MirrorRefreshes
-mod Mirror
+pub mod Mirror
 mod BackwardLists
 mod BackwardSteps
 mod BackwardRounds

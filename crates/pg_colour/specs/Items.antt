@@ -1,7 +1,7 @@
--- What single calls of a colouring do to what it shows.
+-- The items of a round, and what single calls of a colouring do to what it shows.
 -- Source: Boman, Bozdağ, Catalyurek, Gebremedhin and Manne, A scalable parallel graph coloring algorithm for distributed
 -- memory computers (Euro-Par 2005).
-use Rattle.std.specs.Prelude.{◌≡◌, ◌⊎◌, ◌↔◌, ℕ, zero, suc, ◌+◌, ◌<◌, List, [], ◌∷◌, Some, None, All, AllPairs, Contains, length, slice_get}
+use Rattle.std.specs.Prelude.{◌≡◌, ◌⊎◌, ℕ, zero, suc, ◌+◌, ◌<◌, List, [], ◌∷◌, Some, length, slice_get}
 use Rattle.pg_group.specs.declared.messages.Body.{Body}
 use Rattle.pg_group.specs.declared.messages.Body.TheVariants.{Item}
 use Rattle.pg_group.specs.declared.messages.Vote.{Vote}
@@ -13,8 +13,8 @@ use Rattle.pg_cells.specs.declared.phases.Phase.TheVariants.{Filling, Refreshing
 use Rattle.pg_cells.specs.declared.refreshes.PendingRefresh.{PendingRefresh}
 use Rattle.pg_cells.specs.States.{refreshes_of}
 use Rattle.pg_colour.specs.LocalColour.{State}
-use Rattle.pg_colour.specs.Passes.{IsClash, IsLeastFree, with_cell}
-use Rattle.pg_colour.specs.Refreshed.{refresh_of, refreshed}
+use Rattle.pg_colour.specs.Passes.{IsLeastFree, with_cell}
+use Rattle.pg_colour.specs.Refreshed.{refresh_of, values_for, last_or}
 
 -- The phase of the cells in a round: values are put in the even ones, and the holders are refreshed in the odd ones.
 abbrev pub phase_in : ℕ → Phase
@@ -67,45 +67,12 @@ DoesOne part s t sent more = (ColoursOne part s t × (more ≡ sent)) ⊎ Refres
 -- A refresh replaces the ghost of its slot, and a put changes nothing.
 pub record Handles (part : Portion) (body : CellBody) (s t : State) : Type 0 where
   pub own : (k : ℕ) → t.own k ≡ s.own k
-  pub seen : (slot : ℕ) → slot < length part.ghosts → t.seen slot ≡ refreshed slot (body ∷ []) (s.seen slot)
+  pub seen : (slot : ℕ) → slot < length part.ghosts → t.seen slot ≡ last_or (s.seen slot) (values_for slot (body ∷ []))
   pub done : t.done ≡ s.done
   pub stays : StaysInRound s t
-
--- The vote says how many vertices the pass has, and 1 in a refreshing round.
-pub record IsVoteOf (s : State) (vote : Vote) : Type 0 where
-  pub pass : phase_in s.round ≡ Filling → vote.a ≡ length s.list
-  pub refresh : phase_in s.round ≡ Refreshing → vote.a ≡ 1
-  pub b : vote.b ≡ 0
-  pub c : vote.c ≡ 0
-  pub d : vote.d ≡ 0
 
 -- Only the first number of the vote says something.
 pub record IsNarrow (vote : Vote) : Type 0 where
   pub b : vote.b ≡ 0
   pub c : vote.c ≡ 0
   pub d : vote.d ≡ 0
-
--- After a pass its cells are refreshed.
-pub record BeginsRefresh (s t : State) : Type 0 where
-  pub round : t.round ≡ s.round + 1
-  pub cast : t.cast ≡ None
-  pub ended : t.ended ≡ s.ended
-  pub list : t.list ≡ s.list
-  pub done : t.done ≡ 0
-  pub own : (k : ℕ) → t.own k ≡ s.own k
-  pub seen : (slot : ℕ) → t.seen slot ≡ s.seen slot
-
--- After a refreshing round the next pass begins. Its list is the places with a clash, ascending.
-pub record BeginsPass (part : Portion) (s t : State) : Type 0 where
-  pub round : t.round ≡ s.round + 1
-  pub cast : t.cast ≡ None
-  pub ended : t.ended ≡ s.ended
-  pub clashes : (place : ℕ) → Contains t.list place ↔ ((place < length part.vertices) × IsClash part s.own s.seen place)
-  pub ascends : AllPairs (λ k l. k < l) t.list
-  pub done : t.done ≡ 0
-  pub own : (k : ℕ) → t.own k ≡ s.own k
-  pub seen : (slot : ℕ) → t.seen slot ≡ s.seen slot
-
--- Every vote of the round has a = 0.
-abbrev pub AreNothing : List Vote → Type 0
-AreNothing votes = All (λ vote. vote.a ≡ 0) votes

@@ -1,8 +1,10 @@
 pub mod Passes
 pub mod Refreshed
 pub mod LocalColour
+pub mod Steps
+pub mod Whole
 pub mod Seen
 pub mod Rounds
 pub mod Palettes
-pub mod Steps
+pub mod Items
 pub mod Shown

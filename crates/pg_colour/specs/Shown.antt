@@ -1,15 +1,14 @@
 -- What a colouring shows of itself, and what it promises.
-use Rattle.std.specs.Prelude.{◌≡◌, ℕ, ◌<◌, false, None, List, length}
-use Rattle.std.specs.List.{range_with_len}
+use Rattle.std.specs.Prelude.{◌≡◌, false, List}
 use Rattle.pg_group.specs.declared.messages.Body.{Body}
 use Rattle.pg_adj.specs.Portions.{Portion}
 use Rattle.pg_cells.specs.declared.bodies.CellBody.{CellBody}
 use Rattle.pg_cells.specs.Shown.{state_of as cells_of}
 use Rattle.pg_colour.specs.declared.colouring.Colouring.{Colouring}
-use Rattle.pg_colour.specs.declared.TheConstants.{NO_COLOUR}
 use Rattle.pg_colour.specs.LocalColour.{LocalColour, State}
 use Rattle.pg_colour.specs.Rounds.{count_of}
 use Rattle.pg_colour.specs.Seen.{at_places, at_slots}
+use Rattle.pg_colour.specs.Steps.{IsOpening}
 
 -- the part whose vertices it colours
 abbrev pub part_in : Colouring → Portion
@@ -25,16 +24,6 @@ state_of c = record {
   own = at_places (cells_of c.cells).own;
   seen = at_slots (cells_of c.cells).ghosts;
 }
-
--- Nothing was done yet: no vertex has a colour, and all are to be coloured.
-pub record IsOpening (part : Portion) (s : State) : Type 0 where
-  pub round : s.round ≡ 0
-  pub cast : s.cast ≡ None
-  pub ended : s.ended ≡ false
-  pub list : s.list ≡ range_with_len 0 (length part.vertices)
-  pub done : s.done ≡ 0
-  pub own : (place : ℕ) → s.own place ≡ NO_COLOUR
-  pub seen : (slot : ℕ) → s.seen slot ≡ NO_COLOUR
 
 -- Nothing was called of it yet.
 pub record IsNewColouring (c : Colouring) : Type 0 where

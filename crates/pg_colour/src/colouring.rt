@@ -8,7 +8,7 @@ ghost use Rattle.pg_cells.specs.Unsent.{unsent_from};
 ghost use Rattle.pg_cells.specs.declared.phases.Phase.TheVariants.{Refreshing};
 ghost use Rattle.pg_colour.specs.Passes.{row};
 ghost use Rattle.pg_colour.specs.Rounds.{count_of};
-ghost use Rattle.pg_colour.specs.Steps.{items_in, phase_in};
+ghost use Rattle.pg_colour.specs.Items.{items_in, phase_in};
 ghost use Rattle.pg_colour.specs.declared.TheConstants.{NO_COLOUR};
 
 use crate::palettes::Palette;

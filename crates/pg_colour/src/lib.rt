@@ -4,6 +4,7 @@
 
 mod clashes;
 mod colouring;
+pub mod laws;
 mod neighbours;
 mod opening;
 mod palettes;

@@ -19,7 +19,7 @@ impl Program for Colouring {
     ghost use Rattle.std.specs.Prelude.{◌≡◌};
     ghost use Rattle.pg_colour.specs.Rounds.{count_of};
     ghost use Rattle.pg_colour.specs.Shown.{IsNewColouring, KeepsColoured, state_of};
-    ghost use Rattle.pg_colour.specs.Steps.{DoesOne, Handles, IsDone, IsNarrow};
+    ghost use Rattle.pg_colour.specs.Items.{DoesOne, Handles, IsDone, IsNarrow};
 
     type Body = CellBody;
 

@@ -5,7 +5,7 @@ ghost use Rattle.pg_group.specs.Ranked.{IsOther};
 ghost use Rattle.pg_group.specs.Supersteps.{AreUnmarked, OnBlocked, OnIdle, OnMore, SentAtMostOne};
 ghost use Rattle.pg_colour.specs.Rounds.{count_of};
 ghost use Rattle.pg_colour.specs.Shown.{state_of};
-ghost use Rattle.pg_colour.specs.Steps.{BeginsPass, BeginsRefresh, ColoursOne, IsDone, RefreshesOne, phase_in};
+ghost use Rattle.pg_colour.specs.Items.{ColoursOne, IsDone, RefreshesOne, phase_in};
 
 use crate::Colouring;
 use crate::clashes::list_clashes;

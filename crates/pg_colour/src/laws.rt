@@ -1,0 +1,19 @@
+//! The laws of this crate's definitions. No call does anything: each is proved to meet the laws that its clauses state.
+
+ghost use Rattle.pg_colour.specs.Whole.{WholeEndsAtOnce, WholeIsFresh, WholeSeesOwners, WholeIsRun, WholeIsColoured, WholeIsProper, OneRankIsFirstFit};
+
+/// Where all that was sent was handled, by ranks among which a graph is divided and which have all ended, they ended with one
+/// round; each refresh brought a ghost its owner's colour after the pass before; and the owners' colours are proper, on one rank
+/// those of first fit. At the end each ghost is seen with its owner's colour.
+///
+/// Source: Boman, Bozdağ, Catalyurek, Gebremedhin and Manne, A scalable parallel graph coloring algorithm for distributed
+/// memory computers (Euro-Par 2005).
+pub fn whole_runs()
+    ensures together { WholeEndsAtOnce }
+    ensures fresh { WholeIsFresh }
+    ensures seen { WholeSeesOwners }
+    ensures rules { WholeIsRun }
+    ensures coloured { WholeIsColoured }
+    ensures proper { WholeIsProper }
+    ensures first_fit { OneRankIsFirstFit }
+{}
