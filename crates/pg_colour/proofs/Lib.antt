@@ -1,0 +1,5 @@
+pub mod Pigeons
+pub mod TakenLemmas
+pub mod ClashLemmas
+pub mod OpeningLemmas
+pub mod NewCells

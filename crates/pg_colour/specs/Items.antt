@@ -1,7 +1,7 @@
 -- The items of a round, and what single calls of a colouring do to what it shows.
 -- Source: Boman, Bozdağ, Catalyurek, Gebremedhin and Manne, A scalable parallel graph coloring algorithm for distributed
 -- memory computers (Euro-Par 2005).
-use Rattle.std.specs.Prelude.{◌≡◌, ◌⊎◌, ℕ, zero, suc, ◌+◌, ◌<◌, List, [], ◌∷◌, Some, length, slice_get}
+use Rattle.std.specs.Prelude.{◌≡◌, ◌⊎◌, ℕ, zero, suc, ◌+◌, ◌<◌, List, [], ◌∷◌, Some, None, length, slice_get}
 use Rattle.pg_group.specs.declared.messages.Body.{Body}
 use Rattle.pg_group.specs.declared.messages.Body.TheVariants.{Item}
 use Rattle.pg_group.specs.declared.messages.Vote.{Vote}
@@ -76,3 +76,12 @@ pub record IsNarrow (vote : Vote) : Type 0 where
   pub b : vote.b ≡ 0
   pub c : vote.c ≡ 0
   pub d : vote.d ≡ 0
+
+-- A further round begins, with nothing done in it and with the cells as they are.
+pub record TurnsRound (s t : State) : Type 0 where
+  pub round : t.round ≡ s.round + 1
+  pub cast : t.cast ≡ None
+  pub ended : t.ended ≡ s.ended
+  pub done : t.done ≡ 0
+  pub own : (k : ℕ) → t.own k ≡ s.own k
+  pub seen : (slot : ℕ) → t.seen slot ≡ s.seen slot

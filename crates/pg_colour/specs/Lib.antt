@@ -6,5 +6,7 @@ pub mod Whole
 pub mod Seen
 pub mod Rounds
 pub mod Palettes
+pub mod Beside
+pub mod Clashes
 pub mod Items
 pub mod Shown

@@ -1,13 +1,13 @@
 //! A rank's colouring.
 ghost use Rattle.std.specs.Prelude.{◌≡◌, ◌≢◌, ℕ, ◌<◌, ◌≤◌, ◌^◌, true, None, All, is_some, length};
 ghost use Rattle.std.specs.Vec.{vec_capacity};
-ghost use Rattle.pg_adj.specs.ArcSlots.{AreSlotsOf};
 ghost use Rattle.pg_cells.specs.Shown.{state_of};
 ghost use Rattle.pg_cells.specs.States.{refreshes_of};
 ghost use Rattle.pg_cells.specs.Unsent.{unsent_from};
 ghost use Rattle.pg_cells.specs.declared.phases.Phase.TheVariants.{Refreshing};
 ghost use Rattle.pg_colour.specs.Passes.{row};
 ghost use Rattle.pg_colour.specs.Rounds.{count_of};
+ghost use Rattle.pg_colour.specs.Beside.{AreBeside};
 ghost use Rattle.pg_colour.specs.Items.{items_in, phase_in};
 ghost use Rattle.pg_colour.specs.declared.TheConstants.{NO_COLOUR};
 
@@ -47,7 +47,7 @@ pub struct Colouring {
     ghost not_owed: { All (λ owed. owed ≡ None) (state_of cells).owed },
     ghost small: { All (λ colour. colour ≢ NO_COLOUR → colour < 2 ^ 32) (state_of cells).own },
     ghost unsent: { (state_of cells).phase ≡ Refreshing → (state_of cells).unsent ≡ unsent_from (length (refreshes_of part)) next },
-    ghost beside: { AreSlotsOf part.ghosts part.arcs slots.items },
+    ghost beside: { AreBeside part slots.items },
     ghost colours: { (place : ℕ) → place < length part.vertices → length (row part place) < length palette.stamps.items },
     ghost places: { All (λ place. place < length part.vertices) list.items },
     ghost room: { length part.vertices ≤ vec_capacity list },

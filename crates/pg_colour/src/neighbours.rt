@@ -50,6 +50,7 @@ fn take_neighbours(
     requires slots { AreSlotsOf part.now.ghosts part.now.arcs slots.now }
     requires free { (d : ℕ) → IsMarked palette.old.stamps.items palette.old.stamp d → ⊥ }
     ensures marked { (d : ℕ) → d < length palette.old.stamps.items → d < NO_COLOUR → IsMarked palette.new.stamps.items palette.new.stamp d ↔ IsTaken part.now (at_places (state_of cells.now).own) (at_slots (state_of cells.now).ghosts) place d }
+    ensures few { (c : ℕ) → ((d : ℕ) → d < c → IsTaken part.now (at_places (state_of cells.now).own) (at_slots (state_of cells.now).ghosts) place d) → c ≤ length (row part.now place) }
     ensures count { length palette.new.stamps.items ≡ length palette.old.stamps.items }
 {
     let arcs = part.arcs(place);

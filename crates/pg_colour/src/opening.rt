@@ -59,6 +59,7 @@ impl Colouring {
 fn room_for(alloc: Global, part: &Part) -> Result<(Palette, Vec<u32>), AllocError>
     ensures colours { IfOk result (λ room. (place : ℕ) → place < length part.now.vertices → length (row part.now place) < length room.0.stamps.items) }
     ensures places { IfOk result (λ room. room.1.items ≡ range_with_len 0 (length part.now.vertices)) }
+    ensures room { IfOk result (λ room. length part.now.vertices ≤ vec_capacity room.1) }
 {
     let palette = Palette::new(alloc, most_arcs(part) + 1)?;
     let list = all_places(alloc, part)?;
@@ -79,7 +80,8 @@ fn most_arcs(part: &Part) -> usize
 
 // All places, ascending.
 fn all_places(alloc: Global, part: &Part) -> Result<Vec<u32>, AllocError>
-    ensures { IfOk result (λ list. list.items ≡ range_with_len 0 (length part.now.vertices)) }
+    ensures places { IfOk result (λ list. list.items ≡ range_with_len 0 (length part.now.vertices)) }
+    ensures room { IfOk result (λ list. length part.now.vertices ≤ vec_capacity list) }
 {
     let mut list = Vec::with_capacity(alloc, part.count() as usize)?;
     for place in 0..part.count() {

@@ -5,7 +5,8 @@ ghost use Rattle.pg_group.specs.Ranked.{IsOther};
 ghost use Rattle.pg_group.specs.Supersteps.{AreUnmarked, OnBlocked, OnIdle, OnMore, SentAtMostOne};
 ghost use Rattle.pg_colour.specs.Rounds.{count_of};
 ghost use Rattle.pg_colour.specs.Shown.{state_of};
-ghost use Rattle.pg_colour.specs.Items.{ColoursOne, IsDone, RefreshesOne, phase_in};
+ghost use Rattle.pg_colour.specs.Items.{ColoursOne, IsDone, RefreshesOne, TurnsRound, phase_in};
+ghost use Rattle.pg_colour.specs.Steps.{AreClashes};
 
 use crate::Colouring;
 use crate::clashes::list_clashes;
@@ -88,7 +89,7 @@ impl Colouring {
     pub(crate) fn begin_refresh(&mut self)
         requires pass { phase_in (count_of self.old.rounds) ≡ Filling }
         requires running { self.old.ended ≡ false }
-        ensures begins { BeginsRefresh (state_of self.old) (state_of self.new) }
+        ensures turns { TurnsRound (state_of self.old) (state_of self.new) }
         ensures idle { self.new.idle ≡ false }
         ensures part { self.new.part ≡ self.old.part }
     {
@@ -105,7 +106,8 @@ impl Colouring {
         requires refresh { phase_in (count_of self.old.rounds) ≡ Refreshing }
         requires idle { self.old.idle ≡ true }
         requires running { self.old.ended ≡ false }
-        ensures begins { BeginsPass self.old.part (state_of self.old) (state_of self.new) }
+        ensures turns { TurnsRound (state_of self.old) (state_of self.new) }
+        ensures list { AreClashes self.old.part (state_of self.old) (state_of self.new).list }
         ensures idle { self.new.idle ≡ false }
         ensures part { self.new.part ≡ self.old.part }
     {
