@@ -27,7 +27,7 @@ new_small part flags s is = subst (λ (own : List ℕ). All (λ colour. colour �
 places_at : (vertices : List ℕ) (place : ℕ) → at_places (map start vertices) place ≡ NO_COLOUR
 places_at vertices place = elim (cases_lt place (length vertices)) [
   | inl below ↦ get_or-map start vertices place 0 NO_COLOUR below
-  | inr past ↦ get_or_past (map start vertices) place NO_COLOUR (omega (arith, past, length-map start vertices))
+  | inr past ↦ get_or_past (map start vertices) place NO_COLOUR (omega (arith, past, length-map vertices start))
 ]
 
 pub new_places : (part : Portion) (flags : Flags) (s : CellState) → s ≡ new_cells start part flags → (place : ℕ) → at_places s.own place ≡ NO_COLOUR
@@ -36,7 +36,7 @@ new_places part flags s is place = ap (λ (c : CellState). at_places c.own place
 slots_at : (ghosts : List Ghost) (slot : ℕ) → at_slots (map (λ g. Some (start g.vertex.0)) ghosts) slot ≡ NO_COLOUR
 slots_at ghosts slot = elim (cases_lt slot (length ghosts)) [
   | inl below ↦ ap colour_of (get_or-map (λ (g : Ghost). Some (start g.vertex.0)) ghosts slot (record { vertex = record { 0 = 0 }; home = record { 0 = 0 }; place = 0 }) None below)
-  | inr past ↦ ap colour_of (get_or_past (map (λ (g : Ghost). Some (start g.vertex.0)) ghosts) slot None (omega (arith, past, length-map (λ (g : Ghost). Some (start g.vertex.0)) ghosts)))
+  | inr past ↦ ap colour_of (get_or_past (map (λ (g : Ghost). Some (start g.vertex.0)) ghosts) slot None (omega (arith, past, length-map ghosts (λ (g : Ghost). Some (start g.vertex.0)))))
 ]
 
 pub new_slots : (part : Portion) (flags : Flags) (s : CellState) → s ≡ new_cells start part flags → (slot : ℕ) → at_slots s.ghosts slot ≡ NO_COLOUR
