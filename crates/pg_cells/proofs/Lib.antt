@@ -15,6 +15,6 @@ mod Owing
 mod Holding
 mod RefreshLists
 mod Padded
-mod NextSends
+pub mod NextSends
 mod Synchronizes
 mod Example

@@ -3,3 +3,4 @@ pub mod TakenLemmas
 pub mod ClashLemmas
 pub mod OpeningLemmas
 pub mod NewCells
+pub mod WorkLemmas

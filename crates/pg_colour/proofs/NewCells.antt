@@ -1,5 +1,5 @@
 -- The cells of a new colouring.
-use Rattle.std.proofs.Common.{◌≡◌, ◌≢◌, ℕ, ◌<◌, ◌^◌, inl, inr, List, Option, Some, None, All, length, map, replicate, get_or, slice_get, refl, sym, ◌∙◌, ap, subst, arith}
+use Rattle.std.proofs.Common.{◌≡◌, ◌≢◌, ℕ, ◌<◌, ◌^◌, inl, inr, Bool, false, List, Option, Some, None, All, length, map, replicate, get_or, slice_get, refl, sym, ◌∙◌, ap, subst, arith}
 use Rattle.std.proofs.lemmas.Bool.{cases_lt}
 use Rattle.std.proofs.lemmas.List.{get_or-map, get_or_past, get_or_default, length-map}
 use Rattle.std.proofs.lemmas.List.Elements.{All-map, All-replicate}
@@ -19,6 +19,9 @@ start = λ v. NO_COLOUR
 
 pub new_owed : (part : Portion) (flags : Flags) (s : CellState) → s ≡ new_cells start part flags → All (λ owed. owed ≡ None) s.owed
 new_owed part flags s is = subst (λ (owed : List (Option ℕ)). All (λ o. o ≡ None) owed) (sym (ap (λ (c : CellState). c.owed) is)) (All-replicate (λ o. o ≡ None) (length part.ghosts) None refl)
+
+pub new_noted : (part : Portion) (flags : Flags) (s : CellState) → s ≡ new_cells start part flags → All (λ noted. noted ≡ false) s.noted
+new_noted part flags s is = subst (λ (noted : List Bool). All (λ o. o ≡ false) noted) (sym (ap (λ (c : CellState). c.noted) is)) (All-replicate (λ o. o ≡ false) (length part.ghosts) false refl)
 
 pub new_small : (part : Portion) (flags : Flags) (s : CellState) → s ≡ new_cells start part flags → All (λ colour. colour ≢ NO_COLOUR → colour < 2 ^ 32) s.own
 new_small part flags s is = subst (λ (own : List ℕ). All (λ colour. colour ≢ NO_COLOUR → colour < 2 ^ 32) own) (sym (ap (λ (c : CellState). c.own) is))

@@ -1,5 +1,5 @@
 //! A rank's colouring.
-ghost use Rattle.std.specs.Prelude.{◌≡◌, ◌≢◌, ℕ, ◌<◌, ◌≤◌, ◌^◌, true, None, All, is_some, length};
+ghost use Rattle.std.specs.Prelude.{◌≡◌, ◌≢◌, ℕ, ◌<◌, ◌≤◌, ◌^◌, true, false, None, All, is_some, length};
 ghost use Rattle.std.specs.Vec.{vec_capacity};
 ghost use Rattle.pg_cells.specs.Shown.{state_of};
 ghost use Rattle.pg_cells.specs.States.{refreshes_of};
@@ -45,6 +45,7 @@ pub struct Colouring {
     ghost backward: { (state_of cells).flags.backward ≡ true },
     ghost phase: { (state_of cells).phase ≡ phase_in (count_of rounds) },
     ghost not_owed: { All (λ owed. owed ≡ None) (state_of cells).owed },
+    ghost not_noted: { All (λ noted. noted ≡ false) (state_of cells).noted },
     ghost small: { All (λ colour. colour ≢ NO_COLOUR → colour < 2 ^ 32) (state_of cells).own },
     ghost unsent: { (state_of cells).phase ≡ Refreshing → (state_of cells).unsent ≡ unsent_from (length (refreshes_of part)) next },
     ghost beside: { AreBeside part slots.items },

@@ -1,5 +1,5 @@
 //! The colours of a vertex's neighbours, as its rank sees them.
-ghost use Rattle.std.specs.Prelude.{◌≡◌, ◌↔◌, ℕ, ◌<◌, ◌≤◌, length};
+ghost use Rattle.std.specs.Prelude.{◌≡◌, ◌↔◌, ℕ, ◌<◌, ◌≤◌, ◌^◌, length};
 ghost use Rattle.pg_adj.specs.ArcSlots.{AreSlotsOf, IsSlotOf};
 ghost use Rattle.pg_adj.specs.Portions.{IsOwnArc, IsPortion};
 ghost use Rattle.pg_cells.specs.Shown.{state_of};
@@ -50,6 +50,7 @@ fn take_neighbours(
     requires slots { AreSlotsOf part.now.ghosts part.now.arcs slots.now }
     requires free { (d : ℕ) → IsMarked palette.old.stamps.items palette.old.stamp d → ⊥ }
     ensures marked { (d : ℕ) → d < length palette.old.stamps.items → d < NO_COLOUR → IsMarked palette.new.stamps.items palette.new.stamp d ↔ IsTaken part.now (at_places (state_of cells.now).own) (at_slots (state_of cells.now).ghosts) place d }
+    ensures small { length (row part.now place) < 2 ^ 32 }
     ensures few { (c : ℕ) → ((d : ℕ) → d < c → IsTaken part.now (at_places (state_of cells.now).own) (at_slots (state_of cells.now).ghosts) place d) → c ≤ length (row part.now place) }
     ensures count { length palette.new.stamps.items ≡ length palette.old.stamps.items }
 {
@@ -74,7 +75,7 @@ pub(crate) fn least_free(
     requires slots { AreSlotsOf part.now.ghosts part.now.arcs slots.now }
     requires colours { length (row part.now place) < length palette.old.stamps.items }
     ensures least { IsLeastFree part.now (at_places (state_of cells.now).own) (at_slots (state_of cells.now).ghosts) place result }
-    ensures few { result ≤ length (row part.now place) }
+    ensures small { result < 2 ^ 32 }
     ensures count { length palette.new.stamps.items ≡ length palette.old.stamps.items }
 {
     palette.free_all();

@@ -20,7 +20,10 @@ impl Colouring {
         ensures refreshes { result ≡ true → phase_in (count_of self.now.rounds) ≡ Refreshing }
         ensures fills { result ≡ false → phase_in (count_of self.now.rounds) ≡ Filling }
     {
-        self.cells.phase() == Phase::Refreshing
+        match self.cells.phase() {
+            Phase::Refreshing => true,
+            _ => false,
+        }
     }
 
     // Colours the next vertex of the list, if one is left. Answers whether there was one.
@@ -37,10 +40,11 @@ impl Colouring {
         ensures cast { self.new.cast ≡ self.old.cast }
         ensures ended { self.new.ended ≡ self.old.ended }
     {
-        let Some(place) = self.list.get(self.next).copied() else {
+        if self.next == self.list.len() {
             self.idle = true;
             return false;
-        };
+        }
+        let place = self.list[self.next];
         let palette = &mut self.palette;
         let colour = least_free(&self.part, &self.cells, &self.slots, place, palette);
         self.cells.put_at(place, colour);
@@ -78,9 +82,13 @@ impl Colouring {
         ensures out_later { O.Later out.old out.new }
     {
         let worked = self.cells.work(out);
-        self.idle = worked == Worked::Idle;
-        if worked == Worked::More {
-            self.next += 1;
+        match worked {
+            Worked::More => {
+                self.next += 1;
+                self.idle = false;
+            }
+            Worked::Idle => self.idle = true,
+            Worked::Blocked { .. } => self.idle = false,
         }
         worked
     }

@@ -1,4 +1,4 @@
-use Rattle.std.proofs.Common.{◌≡◌, ◌∙◌, List, Some, length, get_or, refl, subst, sym, ap, arith}
+use Rattle.std.proofs.Common.{◌≡◌, ◌≤◌, ◌∙◌, List, Some, length, get_or, refl, subst, sym, ap, arith}
 use Rattle.std.proofs.lemmas.Option.{get_or_from_slice_get, slice_get_within, slice_get-get_or}
 use Rattle.pg_adj.specs.Portions.{IsOwnArc}
 use Rattle.pg_adj.specs.declared.arcs.Arc.{Arc}
@@ -6,6 +6,7 @@ use Rattle.pg_cells.specs.Shown.{state_of}
 use Rattle.pg_colour.specs.Passes.{row}
 use Rattle.pg_colour.specs.Seen.{at_places, at_slots}
 use Rattle.std.specs.Prelude.{slice_get}
+use Rattle.pg_colour.proofs.OpeningLemmas.{few_arcs}
 use Rattle.pg_colour.proofs.TakenLemmas.{all_marked, one_marked, slot_here, taken_by_few}
 use Rattle.pg_colour.proofs.neighbours.take_neighbours.Goals as goal
 
@@ -42,3 +43,9 @@ returns-clause-few c = λ k taken.
       let arcs : List Arc = c.arcs-arcs.result.now in
       subst (IsOwnArc c.args.part.now) (get_or_from_slice_get arcs j arc some_arc here) (c.arcs-arcs.ensures.own j some_arc (slice_get_within arcs j arc here)))
     taken
+
+pub returns-clause-small : goal.returns-clause-small
+returns-clause-small c =
+    let few = few_arcs c.args.part.now c.arcs-arcs.result.now c.arcs-arcs.ensures.ascend c.arcs-arcs.ensures.own in
+    let n : c.args.part.now.n ≤ 1048576 = c.n-n.ensures.portion.n in
+    omega (arith, few, n, ap length c.arcs-arcs.ensures.row)

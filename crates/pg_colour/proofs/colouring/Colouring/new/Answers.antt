@@ -1,7 +1,7 @@
 use Rattle.std.proofs.Common.{◌∙◌, ap, length, refl}
 use Rattle.pg_cells.specs.Shown.{state_of}
 use Rattle.pg_cells.specs.States.{CellState}
-use Rattle.pg_colour.proofs.NewCells.{beside_from, new_owed, new_places, new_slots, new_small}
+use Rattle.pg_colour.proofs.NewCells.{beside_from, new_noted, new_owed, new_places, new_slots, new_small}
 use Rattle.pg_colour.proofs.OpeningLemmas.{places_within}
 use Rattle.pg_colour.proofs.colouring.Colouring.new.Goals as goal
 
@@ -16,6 +16,9 @@ invariant_of-result-clause-phase c = ap (λ (s : CellState). s.phase) c.in_ok-ce
 
 pub invariant_of-result-clause-not_owed : goal.invariant_of-result-clause-not_owed
 invariant_of-result-clause-not_owed c = new_owed c.args.part c.bidirectional-flags.result (state_of c.in_ok-cells.cells) c.in_ok-cells.ensures.new
+
+pub invariant_of-result-clause-not_noted : goal.invariant_of-result-clause-not_noted
+invariant_of-result-clause-not_noted c = new_noted c.args.part c.bidirectional-flags.result (state_of c.in_ok-cells.cells) c.in_ok-cells.ensures.new
 
 pub invariant_of-result-clause-small : goal.invariant_of-result-clause-small
 invariant_of-result-clause-small c = new_small c.args.part c.bidirectional-flags.result (state_of c.in_ok-cells.cells) c.in_ok-cells.ensures.new
