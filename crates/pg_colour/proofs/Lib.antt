@@ -4,3 +4,4 @@ pub mod ClashLemmas
 pub mod OpeningLemmas
 pub mod NewCells
 pub mod WorkLemmas
+pub mod SendLemmas
