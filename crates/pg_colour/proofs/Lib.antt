@@ -1,3 +1,5 @@
 pub mod Incident
 pub mod Neighbours
 pub mod PassesOver
+pub mod Kept
+pub mod Arrived
