@@ -143,7 +143,7 @@ module _ (s : Sharing) (g : Graph) (parts : List Portion) (states : ℕ → Stat
         let from = m.kept q slot (part q) x (k.there q h) held in
         rank_below s g parts k.sharing k.graph k.vertices k.divided home from.home from.there
 
-    home_other : IsOther q s.ranks home
+    pub home_other : IsOther q s.ranks home
     home_other = (home_below, m.mirrored.foreign q slot (part q) x (k.there q h) held)
 
     -- The entry of the refresh that goes to the slot.

@@ -3,3 +3,5 @@ pub mod Neighbours
 pub mod PassesOver
 pub mod Kept
 pub mod Arrived
+pub mod Rules
+pub mod Ending

@@ -90,8 +90,10 @@ module _ (s : Sharing) (g : Graph) (parts : List Portion) (laws : IsSharing s) (
               (λ mine.
               let place : slice_index p.vertices arc.arc.place ≡ arc.arc.to.0 = ap (slice_index p.vertices) from.place ∙ own_place s g parts laws is same d r p at_rank arc.arc.to.0 to.2 to.3 mine in
               let below : arc.arc.place < length p.vertices = omega (arith, from.place, own_below s g parts laws is same d r p at_rank arc.arc.to.0 to.2 to.3 mine) in
-              inl (from.home ∙ (mine ∙ sym (rank_is s g parts laws is same d r p at_rank)),
-              some_colour (own arc.arc.place) k (sym (agrees.at_own arc.arc.place below) ∙ (ap colours (place ∙ arc.leads) ∙ t.has))))
+              inl (
+                from.home ∙ (mine ∙ sym (rank_is s g parts laws is same d r p at_rank)),
+                some_colour (own arc.arc.place) k (sym (agrees.at_own arc.arc.place below) ∙ (ap colours (place ∙ arc.leads) ∙ t.has)),
+              ))
               (λ away.
               let slot = ghost_of_arc s g parts laws is same d r p at_rank i arc.arc inside arc.among away in
               inr (slot.0, slot.1, some_colour (seen slot.0) k (sym (agrees.at_ghost slot.0 slot.1.0 slot.1.1) ∙ (ap colours (slot.1.2 ∙ arc.leads) ∙ t.has))))
@@ -133,5 +135,5 @@ module _ (s : Sharing) (g : Graph) (parts : List Portion) (laws : IsSharing s) (
         passes.0,
         least_there colours before seen agrees i here passes.0 passes.1,
         pass_over list (over.with_colour colours (slice_index p.vertices i) passes.0) end (with_cell before i passes.0) after seen (All-tail (λ i. i < length p.vertices) i list inside)
-        (agrees_next colours before seen agrees i here passes.0 passes.1) ends passes.2,
+            (agrees_next colours before seen agrees i here passes.0 passes.1) ends passes.2,
       )
