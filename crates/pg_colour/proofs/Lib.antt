@@ -5,3 +5,4 @@ pub mod Kept
 pub mod Arrived
 pub mod Rules
 pub mod Ending
+pub mod ExampleRun

@@ -3,3 +3,4 @@ pub mod Refreshed
 pub mod LocalColour
 pub mod Steps
 pub mod Whole
+pub mod Example

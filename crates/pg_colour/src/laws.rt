@@ -1,6 +1,8 @@
 //! The laws of this crate's definitions. No call does anything: each is proved to meet the laws that its clauses state.
 
-ghost use Rattle.pg_colour.specs.Whole.{WholeEndsAtOnce, WholeIsFresh, WholeSeesOwners, WholeIsRun, WholeIsColoured, WholeIsProper, OneRankIsFirstFit};
+ghost use Rattle.pg_cells.specs.Example.{one_each, pair, parts};
+ghost use Rattle.pg_colour.specs.Example.{lists, state};
+ghost use Rattle.pg_colour.specs.Whole.{IsWholeRun, WholeEndsAtOnce, WholeIsFresh, WholeSeesOwners, WholeIsRun, WholeIsColoured, WholeIsProper, OneRankIsFirstFit};
 
 /// Where all that was sent was handled, by ranks among which a graph is divided and which have all ended, they ended with one
 /// round; each refresh brought a ghost its owner's colour after the pass before; and the owners' colours are proper, on one rank
@@ -16,4 +18,9 @@ pub fn whole_runs()
     ensures coloured { WholeIsColoured }
     ensures proper { WholeIsProper }
     ensures first_fit { OneRankIsFirstFit }
+{}
+
+/// A run of two ranks, in which a vertex is coloured twice, meets every premise.
+pub fn example_run()
+    ensures { IsWholeRun one_each pair parts state lists lists }
 {}
