@@ -40,6 +40,14 @@ again_count zero h = refl
 again_count (suc zero) h = refl
 again_count (suc (suc r)) h = absurd (omega arith)
 
+again_is : (x : ℕ) → Contains (again 1) x → 0 ≡ x
+unfolding again
+again_is x l = only 0 x l
+
+again_first : Contains (again 1) 0
+unfolding again
+again_first = contains_first 0 []
+
 list_of : ℕ → ℕ → List ℕ
 list_of r zero = 0 ∷ []
 list_of r (suc zero) = again r
@@ -197,3 +205,204 @@ module _ (r o : ℕ) (apart : r ≢ o) (small : r < 2) (near : o < 2) (handled p
       (λ here. subst (λ (x : ℕ). with_cell no_colours 0 1 x ≡ with_cell (with_cell no_colours 0 0) 0 1 x) (sym here) refl)
       (λ else. cell_else no_colours 0 1 place else ∙ sym (cell_else (with_cell no_colours 0 0) 0 1 place else ∙ cell_else no_colours 0 0 place else))
       (cases_eq place 0)
+
+  own_stays : (place : ℕ) → place < 1 → with_cell no_colours 0 r place ≡ r
+  own_stays zero h = cell_at no_colours 0 r
+  own_stays (suc place) h = absurd (omega arith)
+
+  -- Rank 1 alone finds a clash, after the first pass.
+  clash_is : (place : ℕ) → Contains (again r) place → (r ≡ 1) × (place ≡ 0)
+  clash_is place c =
+      let one : r ≡ 1 = omega (arith, small, again_count r small, c.1) in
+      let listed : Contains (again 1) place = subst (λ (x : ℕ). Contains (again x) place) one c in
+      (one, sym (again_is place listed))
+
+  is_again : r ≡ 1 → Contains (again r) 0
+  is_again one = subst (λ (x : ℕ). Contains (again x) 0) (sym one) again_first
+
+  clash_there : IsClash p (with_cell no_colours 0 0) (seen_after p handled 2) 0 → r ≡ 1
+  clash_there c =
+      let to : suc o ≡ c.arc.to.0 = ap (λ (a : Arc). a.to.0) (arc_is 0 c.arc (omega arith) c.among) in
+      omega (arith, to, c.lesser, small, apart)
+
+  clash_here : r ≡ 1 → IsClash p (with_cell no_colours 0 0) (seen_after p handled 2) 0
+  clash_here one = record {
+    arc = the_arc;
+    slot = 0;
+    among = contains_first the_arc [];
+    ghost_at = (_, refl, refl);
+    lesser = omega (arith, one, near, apart);
+    same = seen_left 2 ∙ left_2 o;
+  }
+
+  no_clash : (place : ℕ) → place < 1 → IsClash p (with_cell no_colours 0 r) (seen_after p handled 4) place → ⊥
+  no_clash place h c =
+      let slot : c.slot ≡ 0 = slot_is c.arc.to.0 c.slot c.ghost_at in
+      let seen : seen_after p handled 4 c.slot ≡ o = ap (seen_after p handled 4) slot ∙ (seen_left 4 ∙ left_4 o) in
+      apart (sym (own_stays place h) ∙ (sym c.same ∙ seen))
+
+  clashes : (j place : ℕ) → 2 * j + 2 ≤ 4
+      → Contains (list_of r (suc j)) place ↔ ((place < 1) × IsClash p (own_of r j) (seen_after p handled (2 * j + 2)) place)
+  unfolding list_of own_of
+  clashes zero place within = (
+    λ c.
+        let is = clash_is place c in
+        subst (λ (x : ℕ). (x < 1) × IsClash p (with_cell no_colours 0 0) (seen_after p handled 2) x) (sym is.1) (omega arith, clash_here is.0),
+    λ is.
+        let first : place ≡ 0 = omega (arith, is.0) in
+        let clash : IsClash p (with_cell no_colours 0 0) (seen_after p handled 2) 0 = subst (λ (x : ℕ). IsClash p (with_cell no_colours 0 0) (seen_after p handled 2) x) first is.1 in
+        subst (λ (x : ℕ). Contains (again r) x) (sym first) (is_again (clash_there clash)),
+  )
+  clashes (suc zero) place within = (λ c. absurd (omega (arith, c.1)), λ is. absurd (no_clash place is.0 is.1))
+  clashes (suc (suc j)) place within = absurd (omega arith)
+
+  pass_none : Passes p (seen_after p handled 2) (again 0) (with_cell no_colours 0 0) (with_cell no_colours 0 0)
+  unfolding again
+  pass_none = λ place. refl
+
+  pass_once : Passes p (seen_after p handled 2) (again 1) (with_cell no_colours 0 0) (with_cell no_colours 0 1)
+  unfolding again
+  pass_once = (1, second_fits (with_cell no_colours 0 0), last_cells)
+
+  second_pass : (r ≡ 0) ⊎ (r ≡ 1) → Passes p (seen_after p handled 2) (again r) (with_cell no_colours 0 0) (with_cell no_colours 0 r)
+  second_pass (inl none) = subst (λ (x : ℕ). Passes p (seen_after p handled 2) (again x) (with_cell no_colours 0 0) (with_cell no_colours 0 x)) (sym none) pass_none
+  second_pass (inr one) = subst (λ (x : ℕ). Passes p (seen_after p handled 2) (again x) (with_cell no_colours 0 0) (with_cell no_colours 0 x)) (sym one) pass_once
+
+  passes : (j : ℕ) → 2 * j < 4 → Passes p (seen_after p handled (2 * j)) (list_of r j) (own_before (history r) j) (own_of r j)
+  unfolding list_of own_of
+  passes zero within = (0, first_fits, λ place. refl)
+  passes (suc zero) within = second_pass (⊎_elim (λ e. inl e) (λ e. inr (omega (arith, e, small))) (cases_eq r 0))
+  passes (suc (suc j)) within = absurd (omega arith)
+
+  begins : list_of r 0 ≡ 0 ∷ []
+  unfolding list_of
+  begins = refl
+
+  are_passes : ArePasses p handled 4 (history r)
+  are_passes = record {
+    begins = begins;
+    ascends = λ j within. short (list_of r j) (list_short r j small);
+    clashes = clashes;
+    passes = passes;
+  }
+
+  third : (j : ℕ) → 4 ≡ 2 * j → j ≡ 2
+  third j e = omega (arith, e)
+
+  last_list : list_of r 2 ≡ []
+  unfolding list_of
+  last_list = refl
+
+  last_own : own_of r 1 ≡ with_cell no_colours 0 r
+  unfolding own_of
+  last_own = refl
+
+  last_pass : Passes p (seen_after p handled 4) [] (own_of r 1) (with_cell no_colours 0 r)
+  unfolding own_of
+  last_pass = λ place. refl
+
+  seen_end : (slot : ℕ) → slot < 1 → with_cell no_colours 0 (1 - r) slot ≡ seen_after p handled 6 slot
+  seen_end zero h =
+      let other : 1 - r ≡ o = omega (arith, small, near, apart) in
+      cell_at no_colours 0 (1 - r) ∙ (other ∙ sym (seen_left 6 ∙ left_6 o))
+  seen_end (suc slot) h = absurd (omega arith)
+
+  present : IsPresent p handled (history r) (state r)
+  present = record {
+    list = λ j e. sym (ap (list_of r) (third j e) ∙ last_list);
+    partly = λ j e. subst (λ (i : ℕ). Passes p (seen_after p handled (2 * i)) [] (own_before (history r) i) (with_cell no_colours 0 r)) (sym (third j e)) last_pass;
+    own = λ j place e. absurd (omega (arith, e));
+    seen = λ slot h. seen_end slot h;
+  }
+
+  refreshes_are : (own : Cells) → refreshes_to o own (refreshes_of p) ≡ Refresh 0 (own 0) ∷ []
+  refreshes_are own = ap (map (refresh_of own)) (cond-true (o == o) (the_refresh ∷ []) [] (eq-eqb o o refl))
+
+  round_sent : (j : ℕ) → 2 * j + 1 < 5 → items_of_round (2 * j + 1) (lane r) ≡ Refresh 0 (own_of r j 0) ∷ []
+  unfolding own_of
+  round_sent zero h = refl
+  round_sent (suc zero) h = refl
+  round_sent (suc (suc j)) h = absurd (omega arith)
+
+  sends : AreSent p promised (history r) (state r)
+  sends = record {
+    all = λ q j other h.
+        ap (items_of_round (2 * j + 1)) (sent_to q other)
+        ∙ (round_sent j h ∙ sym (ap (λ (x : ℕ). refreshes_to x (own_of r j) (refreshes_of p)) (other_is q other) ∙ refreshes_are (own_of r j)));
+    some = λ q j other e. absurd (omega (arith, e));
+    votes = λ q k v other at. vote_at r k v small (ap (λ (list : List (Body CellBody)). slice_get (votes_of list) k) (sym (sent_to q other)) ∙ at);
+    cast = λ v at. vote_at r 4 v small at;
+    whole = λ j v e at. refl;
+  }
+
+  not_yet : (j : ℕ) → 2 * j < 4 → HasNothing p handled (history r) j → ⊥
+  unfolding list_of
+  not_yet zero h nothing = omega (arith, ap length nothing.own)
+  not_yet (suc zero) h nothing =
+      let other = nothing.others o (vote o) (near, λ e. apart (sym e)) (ap (λ (list : List (Body CellBody)). slice_get (votes_of list) 2) from) in
+      let none = ap length nothing.own in
+      apart (omega (arith, other, none, again_count r small))
+  not_yet (suc (suc j)) h nothing = absurd (omega arith)
+
+  at_last : HasNothing p handled (history r) 2
+  at_last = record {
+    own = last_list;
+    others = λ q v other at.
+        let is = same_Some (vote 0) v (ap (λ (list : List (Body CellBody)). slice_get (votes_of list) 4) (sym (taken_from q other)) ∙ at) in
+        ap (λ (x : Vote). x.a) (sym is);
+  }
+
+  pub keeps : LocalColour p handled promised (state r)
+  keeps = record {
+    history = history r;
+    counted = counted;
+    refreshes = refreshes;
+    coloured = λ sound. record {
+      passes = are_passes;
+      present = present;
+      sends = sends;
+      ending = record { ended = λ e. (2, refl, at_last); going = not_yet };
+    };
+  }
+
+  pub over : HasEndedOver 2 r lists lists p (state r)
+  over = record {
+    handled = handled;
+    promised = promised;
+    ended = refl;
+    keeps = keeps;
+    handled_is = λ q other. taken_from q other ∙ ap lane (sym (other_is q other));
+    sent_is = λ q other. sent_to q other;
+  }
+
+zero_one : zero ≢ suc zero
+zero_one e = omega (arith, e)
+
+kept : (r : ℕ) (p : Portion) → slice_get parts r ≡ Some p → HasEndedOver 2 r lists lists p (state r)
+kept zero p at =
+    subst (λ (q : Portion). HasEndedOver 2 0 lists lists q (state 0)) (same_Some (part_of 0 1 1 2) p at)
+    (over 0 1 zero_one (omega arith) (omega arith) ([] ∷ lane 1 ∷ []) ([] ∷ lane 0 ∷ []) refl refl refl refl)
+kept (suc zero) p at =
+    subst (λ (q : Portion). HasEndedOver 2 1 lists lists q (state 1)) (same_Some (part_of 1 2 0 1) p at)
+    (over 1 0 (λ e. zero_one (sym e)) (omega arith) (omega arith) (lane 0 ∷ [] ∷ []) (lane 1 ∷ [] ∷ []) refl refl refl refl)
+kept (suc (suc r)) p at = absurd (none-some p at)
+
+marked : IsMarked 2 lists
+marked = record {
+  rounds = 5;
+  some_round = omega arith;
+  marked = λ q r h other. refl;
+  last = λ q r h other. refl;
+  same_votes = λ q r h other third more. refl;
+}
+
+pub example_is : IsWholeRun one_each pair parts state lists lists
+example_is = record {
+  sharing = sharing_laws;
+  graph = is_graph;
+  vertices = refl;
+  divided = divided;
+  whole = λ q r h other. refl;
+  marked = marked;
+  kept = kept;
+}
