@@ -116,7 +116,7 @@ vote_at r (suc (suc (suc (suc zero)))) v h at = subst (IsVoteIn (history r) 4) (
 vote_at r (suc (suc (suc (suc (suc k))))) v h at = absurd (none-some v at)
 
 module _ (r o : ℕ) (apart : r ≢ o) (small : r < 2) (near : o < 2) (handled promised : List (List (Body CellBody)))
-    (from : list_at handled o ≡ lane o) (to : list_at promised o ≡ lane r) (each : length handled ≡ 2) (each_sent : length promised ≡ 2) where
+    (from : list_at handled o ≡ lane o) (to : list_at promised o ≡ lane r) (alone : list_at handled r ≡ []) (each : length handled ≡ 2) (each_sent : length promised ≡ 2) where
   abbrev p : Portion
   p = part_of r (suc r) o (suc o)
 
@@ -148,6 +148,7 @@ module _ (r o : ℕ) (apart : r ≢ o) (small : r < 2) (near : o < 2) (handled p
   counted = record {
     from_each = each;
     to_each = each_sent;
+    alone = alone;
     running = λ e. absurd (true≢false e);
     closed = λ e q other. ap marks (taken_from q other);
     given = λ q other. ap marks (sent_to q other);
@@ -381,10 +382,10 @@ zero_one e = omega (arith, e)
 kept : (r : ℕ) (p : Portion) → slice_get parts r ≡ Some p → HasEndedOver 2 r lists lists p (state r)
 kept zero p at =
     subst (λ (q : Portion). HasEndedOver 2 0 lists lists q (state 0)) (same_Some (part_of 0 1 1 2) p at)
-    (over 0 1 zero_one (omega arith) (omega arith) ([] ∷ lane 1 ∷ []) ([] ∷ lane 0 ∷ []) refl refl refl refl)
+    (over 0 1 zero_one (omega arith) (omega arith) ([] ∷ lane 1 ∷ []) ([] ∷ lane 0 ∷ []) refl refl refl refl refl)
 kept (suc zero) p at =
     subst (λ (q : Portion). HasEndedOver 2 1 lists lists q (state 1)) (same_Some (part_of 1 2 0 1) p at)
-    (over 1 0 (λ e. zero_one (sym e)) (omega arith) (omega arith) (lane 0 ∷ [] ∷ []) (lane 1 ∷ [] ∷ []) refl refl refl refl)
+    (over 1 0 (λ e. zero_one (sym e)) (omega arith) (omega arith) (lane 0 ∷ [] ∷ []) (lane 1 ∷ [] ∷ []) refl refl refl refl refl)
 kept (suc (suc r)) p at = absurd (none-some p at)
 
 marked : IsMarked 2 lists

@@ -6,3 +6,6 @@ pub mod Arrived
 pub mod Rules
 pub mod Ending
 pub mod ExampleRun
+pub mod StepLists
+pub mod PassSteps
+pub mod Seeing

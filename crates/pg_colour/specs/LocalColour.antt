@@ -37,11 +37,12 @@ abbrev pub own_before : History → ℕ → Cells
 own_before h zero = no_colours
 own_before h (suc j) = h.own j
 
--- As many lists as ranks; as many marks handled as rounds have ended, and as many sent as votes were cast; no item is sent in a
--- round to come.
+-- As many lists as ranks; nothing is handled from the rank itself; as many marks handled as rounds have ended, and as many sent as
+-- votes were cast; no item is sent in a round to come.
 pub record AreCounted (part : Portion) (handled sent : List (List (Body CellBody))) (s : State) : Type 0 where
   pub from_each : length handled ≡ part.ranks
   pub to_each : length sent ≡ part.ranks
+  pub alone : list_at handled part.rank ≡ []
   pub running : s.ended ≡ false → (from : ℕ) → IsOther part.rank part.ranks from → marks (list_at handled from) ≡ s.round
   pub closed : s.ended ≡ true → (from : ℕ) → IsOther part.rank part.ranks from → marks (list_at handled from) ≡ suc s.round
   pub given : (to : ℕ) → IsOther part.rank part.ranks to → marks (list_at sent to) ≡ voted s.round s.cast
