@@ -9,3 +9,4 @@ pub mod ExampleRun
 pub mod StepLists
 pub mod PassSteps
 pub mod Seeing
+pub mod StepHandling
