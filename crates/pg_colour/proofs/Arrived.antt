@@ -32,12 +32,12 @@ pub voted_least : (round : ℕ) (cast : Option Vote) → round ≤ voted round c
 voted_least round None = omega arith
 voted_least round (Some v) = omega arith
 
-refreshes_yes : (to : ℕ) (own : Cells) (p : PendingRefresh) (list : List PendingRefresh) → p.holder.rank.0 ≡ to
+pub refreshes_yes : (to : ℕ) (own : Cells) (p : PendingRefresh) (list : List PendingRefresh) → p.holder.rank.0 ≡ to
     → refreshes_to to own (p ∷ list) ≡ refresh_of own p ∷ refreshes_to to own list
 refreshes_yes to own p list same =
     ap (map (refresh_of own)) (cond-true (p.holder.rank.0 == to) (p ∷ filter (λ q. q.holder.rank.0 == to) list) (filter (λ q. q.holder.rank.0 == to) list) (eq-eqb p.holder.rank.0 to same))
 
-refreshes_no : (to : ℕ) (own : Cells) (p : PendingRefresh) (list : List PendingRefresh) → p.holder.rank.0 ≢ to
+pub refreshes_no : (to : ℕ) (own : Cells) (p : PendingRefresh) (list : List PendingRefresh) → p.holder.rank.0 ≢ to
     → refreshes_to to own (p ∷ list) ≡ refreshes_to to own list
 refreshes_no to own p list apart =
     ap (map (refresh_of own)) (cond-false (p.holder.rank.0 == to) (p ∷ filter (λ q. q.holder.rank.0 == to) list) (filter (λ q. q.holder.rank.0 == to) list) (ne_eqb p.holder.rank.0 to apart))

@@ -10,3 +10,4 @@ pub mod StepLists
 pub mod PassSteps
 pub mod Seeing
 pub mod StepHandling
+pub mod StepWorking
