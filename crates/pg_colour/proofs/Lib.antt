@@ -11,3 +11,4 @@ pub mod PassSteps
 pub mod Seeing
 pub mod StepHandling
 pub mod StepWorking
+pub mod StepRounds
