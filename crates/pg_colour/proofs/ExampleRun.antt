@@ -10,6 +10,7 @@ use Rattle.pg_group.specs.Book.{IsMarked}
 use Rattle.pg_group.specs.Ranked.{IsOther, list_at}
 use Rattle.pg_group.specs.Rounds.{marks, items_of_round, votes_of}
 use Rattle.pg_adj.specs.declared.arcs.Arc.{Arc}
+use Rattle.pg_adj.specs.declared.arcs.Ghost.{Ghost}
 use Rattle.pg_adj.specs.Portions.{Portion}
 use Rattle.pg_cells.specs.declared.bodies.CellBody.{CellBody}
 use Rattle.pg_cells.specs.declared.bodies.CellBody.TheVariants.{Refresh}
@@ -174,7 +175,7 @@ module _ (r o : ℕ) (apart : r ≢ o) (small : r < 2) (near : o < 2) (handled p
   arc_is zero a h c = only the_arc a c
   arc_is (suc place) a h c = absurd (omega arith)
 
-  slot_is : (v slot : ℕ) → (x : Rattle.pg_adj.specs.declared.arcs.Ghost.Ghost) × (slice_get p.ghosts slot ≡ Some x) × (x.vertex.0 ≡ v) → slot ≡ 0
+  slot_is : (v slot : ℕ) → (x : Ghost) × (slice_get p.ghosts slot ≡ Some x) × (x.vertex.0 ≡ v) → slot ≡ 0
   slot_is v slot g = let h = slice_get_within p.ghosts slot g.0 g.1 in omega (arith, h)
 
   -- The neighbour has only the colour that it is seen with.

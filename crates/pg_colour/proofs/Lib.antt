@@ -12,3 +12,4 @@ pub mod Seeing
 pub mod StepHandling
 pub mod StepWorking
 pub mod StepRounds
+pub mod Stepping

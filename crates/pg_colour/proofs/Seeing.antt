@@ -9,6 +9,7 @@ use Rattle.pg_group.specs.declared.messages.Body.TheVariants.{Item}
 use Rattle.pg_group.specs.Ranked.{IsOther, list_at, append_at}
 use Rattle.pg_group.specs.Rounds.{marks, items_of_round, votes_of}
 use Rattle.pg_group.proofs.RollLemmas.{round-to_come, list_at-append_same, list_at-append_else}
+use Rattle.pg_adj.specs.declared.arcs.Ghost.{Ghost}
 use Rattle.pg_adj.specs.Portions.{Portion}
 use Rattle.pg_cells.specs.declared.bodies.CellBody.{CellBody}
 use Rattle.pg_cells.specs.declared.bodies.CellBody.TheVariants.{Put, Refresh}
@@ -212,5 +213,5 @@ module _ (part : Portion) (handled : List (List (Body CellBody))) (from : ℕ) (
   no_value slot is else =
       ap (λ (x : CellBody). values_for slot (x ∷ [])) is.is
       ∙ cond-false (is.slot == slot) (is.value ∷ []) [] (ne_eqb is.slot slot (λ e.
-      let home : home_of part is.slot ≡ from = ap (λ (y : Rattle.pg_adj.specs.declared.arcs.Ghost.Ghost). y.home.0) (get_or_from_slice_get part.ghosts is.slot is.ghost_there (record { vertex = record { 0 = 0 }; home = record { 0 = 0 }; place = 0 }) is.there) ∙ is.home in
+      let home : home_of part is.slot ≡ from = ap (λ (y : Ghost). y.home.0) (get_or_from_slice_get part.ghosts is.slot is.ghost_there (record { vertex = record { 0 = 0 }; home = record { 0 = 0 }; place = 0 }) is.there) ∙ is.home in
       else (ap (home_of part) (sym e) ∙ home)))

@@ -15,9 +15,10 @@ use Rattle.pg_group.specs.Supersteps.{nothing}
 use Rattle.pg_group.proofs.RollLemmas.{marks-item, length-append_at, list_at-append_same, list_at-append_else}
 use Rattle.pg_adj.specs.Portions.{Portion}
 use Rattle.pg_cells.specs.declared.bodies.CellBody.{CellBody}
+use Rattle.pg_cells.specs.States.{refreshes_of}
 use Rattle.pg_colour.specs.declared.TheConstants.{NO_COLOUR}
 use Rattle.pg_colour.specs.Passes.{Cells, no_colours, Passes}
-use Rattle.pg_colour.specs.Refreshed.{IsRefreshTo, AreRefreshes, AreSound, values_for, last_or, home_of, seen_after}
+use Rattle.pg_colour.specs.Refreshed.{refreshes_to, IsRefreshTo, AreRefreshes, AreSound, values_for, last_or, home_of, seen_after}
 use Rattle.pg_colour.specs.LocalColour.{State, History, own_before, AreCounted, ArePasses, IsPresent, IsVoteIn, AreSent, HasNothing, EndsWell, AreColoured, LocalColour}
 use Rattle.pg_colour.specs.Steps.{IsOpening, OpeningKeeps, HasHandled, HandlingKeeps}
 use Rattle.pg_colour.proofs.StepLists.{none_at, votes-item}
@@ -213,7 +214,7 @@ module _ (part : Portion) (handled sent : List (List (Body CellBody))) (s t : St
       };
       sends = record {
         all = λ q j o less. is.sends.all q j o (subst (λ (n : ℕ). 2 * j + 1 < n) (λ i. voted (after.round i) (after.cast i)) less);
-        some = λ q j o e. subst (λ (n : ℕ). items_of_round (2 * j + 1) (list_at sent q) ≡ Rattle.pg_colour.specs.Refreshed.refreshes_to q (h.own j) (take n (Rattle.pg_cells.specs.States.refreshes_of part))) (sym after.done)
+        some = λ q j o e. subst (λ (n : ℕ). items_of_round (2 * j + 1) (list_at sent q) ≡ refreshes_to q (h.own j) (take n (refreshes_of part))) (sym after.done)
             (is.sends.some q j o (sym after.round ∙ e));
         votes = is.sends.votes;
         cast = λ v at. subst (λ (k : ℕ). IsVoteIn h k v) (sym after.round) (is.sends.cast v (sym after.cast ∙ at));

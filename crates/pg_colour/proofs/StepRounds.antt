@@ -290,3 +290,174 @@ module _ (part : Portion) (handled sent : List (List (Body CellBody))) (s : Stat
       given = λ q o. omega (arith, keeps.counted.given q o, voted_now, did.round, ap (voted t.round) did.cast);
       later = λ q k o late. keeps.counted.later q k o (omega (arith, late, did.round));
     }
+
+    module _ (is : AreColoured part handled sent old s) where
+      own_still : (i p : ℕ) → s.round ≡ 2 * i + 1 → s.own p ≡ own_next i p
+      own_still i p odd = is.present.own i p odd ∙ ap (λ (cells : Cells). cells p) (sym (own_old i (omega (arith, odd))))
+
+      seen_alike : (i : ℕ) → s.round ≡ 2 * i + 1 → SeenAlike part s.seen (seen_after part ended_round (2 * i + 2))
+      seen_alike i odd slot below =
+          is.present.seen slot below
+          ∙ (seen_behind part handled sent s i slot keeps.counted running odd
+          ∙ ap (λ (cells : Cells). cells slot) (seen_same (2 * i + 2)))
+
+      next_ascends : (i : ℕ) → 2 * i ≤ s.round + 1 → AllPairs (λ k l. k < l) (list_next i)
+      next_ascends i within = ⊎_elim
+          (λ now.
+          let odd : s.round ≡ 2 * (i - 1) + 1 = omega (arith, now) in
+          subst (λ (list : List ℕ). AllPairs (λ k l. k < l) list) (sym (list_new i now)) (did.list (i - 1) odd).ascending)
+          (λ apart.
+          let early : 2 * i ≤ s.round = omega (arith, within, apart) in
+          subst (λ (list : List ℕ). AllPairs (λ k l. k < l) list) (sym (list_old i early)) (is.passes.ascends i early))
+          (cases_eq (2 * i) (s.round + 1))
+
+      next_clashes : (i place : ℕ) → 2 * i + 2 ≤ s.round + 1
+          → Contains (list_next (suc i)) place ↔ ((place < length part.vertices) × IsClash part (own_next i) (seen_after part ended_round (2 * i + 2)) place)
+      next_clashes i place within = ⊎_elim
+          (λ now.
+          let odd : s.round ≡ 2 * i + 1 = omega (arith, now) in
+          let listed : list_next (suc i) ≡ t.list = list_new (suc i) (omega (arith, now)) in
+          let are = (did.list i odd).clash place in (
+            λ c.
+                let found = are.0 (subst (λ (list : List ℕ). Contains list place) listed c) in
+                (found.0, clash_alike part s.own (own_next i) s.seen (seen_after part ended_round (2 * i + 2)) place (own_still i place odd) (seen_alike i odd) found.1),
+            λ found.
+                subst (λ (list : List ℕ). Contains list place) (sym listed)
+                (are.1 (found.0, clash_alike part (own_next i) s.own (seen_after part ended_round (2 * i + 2)) s.seen place (sym (own_still i place odd)) (λ slot below. sym (seen_alike i odd slot below)) found.1)),
+          ))
+          (λ apart.
+          let early : 2 * i + 2 ≤ s.round = omega (arith, within, apart) in
+          let listed : list_next (suc i) ≡ old.list (suc i) = list_old (suc i) (omega (arith, early)) in
+          let own : own_next i ≡ old.own i = own_old i (omega (arith, early)) in
+          let were = is.passes.clashes i place early in
+          let same : (x : ℕ) → own_next i x ≡ old.own i x = λ x. ap (λ (cells : Cells). cells x) own in
+          let seen : SeenAlike part (seen_after part handled (2 * i + 2)) (seen_after part ended_round (2 * i + 2)) = λ slot below. ap (λ (cells : Cells). cells slot) (seen_same (2 * i + 2)) in (
+            λ c.
+                let found = were.0 (subst (λ (list : List ℕ). Contains list place) listed c) in
+                (found.0, clash_alike part (old.own i) (own_next i) (seen_after part handled (2 * i + 2)) (seen_after part ended_round (2 * i + 2)) place (sym (same place)) seen found.1),
+            λ found.
+                subst (λ (list : List ℕ). Contains list place) (sym listed)
+                (were.1 (found.0, clash_alike part (own_next i) (old.own i) (seen_after part ended_round (2 * i + 2)) (seen_after part handled (2 * i + 2)) place (same place) (λ slot below. sym (seen slot below)) found.1)),
+          ))
+          (cases_eq (2 * i + 2) (s.round + 1))
+
+      next_pass : (i : ℕ) → 2 * i < s.round + 1 → Passes part (seen_after part ended_round (2 * i)) (list_next i) (own_before history_next i) (own_next i)
+      next_pass i less = ⊎_elim
+          (λ now.
+          let even : s.round ≡ 2 * i = sym now in
+          let all : take s.done s.list ≡ list_next i =
+          take_all s.done s.list (omega (arith, is.sends.whole i vote even cast)) ∙ (is.present.list i even ∙ sym (list_old i (omega (arith, now)))) in
+          pass_same part (seen_after part handled (2 * i)) (seen_after part ended_round (2 * i)) (take s.done s.list) (list_next i) (own_before old i) (own_before history_next i) s.own (own_next i)
+          (seen_same (2 * i)) all (sym (before_old i (omega (arith, now)))) (sym (own_new i now)) (is.present.partly i even))
+          (λ apart.
+          let early : 2 * i < s.round = omega (arith, less, apart) in
+          pass_same part (seen_after part handled (2 * i)) (seen_after part ended_round (2 * i)) (old.list i) (list_next i) (own_before old i) (own_before history_next i) (old.own i) (own_next i)
+          (seen_same (2 * i)) (sym (list_old i (omega (arith, early)))) (sym (before_old i (omega (arith, early)))) (sym (own_old i early)) (is.passes.passes i early))
+          (cases_eq (2 * i) s.round)
+
+      -- As a pass begins the own cells are those after the one before.
+      own_begins : (i place : ℕ) → t.round ≡ 2 * i → t.own place ≡ own_before history_next i place
+      unfolding history_next
+      own_begins zero place e = absurd (omega (arith, e, did.round))
+      own_begins (suc j) place e = did.own place ∙ own_still j place (omega (arith, e, did.round))
+
+      next_partly : (i : ℕ) → t.round ≡ 2 * i → Passes part (seen_after part ended_round (2 * i)) (take t.done t.list) (own_before history_next i) t.own
+      next_partly i e =
+          let begins : Passes part (seen_after part ended_round (2 * i)) [] (own_before history_next i) t.own = λ place. own_begins i place e in
+          subst (λ (n : ℕ). Passes part (seen_after part ended_round (2 * i)) (take n t.list) (own_before history_next i) t.own) (sym did.done) begins
+
+      next_seen : (slot : ℕ) → slot < length part.ghosts → t.seen slot ≡ seen_after part ended_round (t.round + 2) slot
+      next_seen slot below =
+          did.seen slot below
+          ∙ (is.present.seen slot below
+          ∙ (ap (λ (cells : Cells). cells slot) (seen_same (s.round + 2))
+          ∙ sym (seen_rest part ended_round (s.round + 2) (t.round + 2) slot (omega (arith, did.round)) (λ q k low high.
+          round_items q k ∙ none_later part handled sent s q k keeps.counted running (omega (arith, low))))))
+
+      vote_kept : (k : ℕ) (v : Vote) → k ≤ s.round → IsVoteIn old k v → IsVoteIn history_next k v
+      unfolding history_next
+      vote_kept k v within was = record {
+        pass = λ i e. was.pass i e ∙ ap length (sym (list_old i (omega (arith, e, within))));
+        refresh = was.refresh;
+        b = was.b;
+        c = was.c;
+        d = was.d;
+      }
+
+      old_vote : (q k : ℕ) (v : Vote) → IsOther part.rank part.ranks q → slice_get (votes_of (list_at sent q)) k ≡ Some v → IsVoteIn history_next k v
+      old_vote q k v o at =
+          let within = slice_get_within (votes_of (list_at sent q)) k v at in
+          vote_kept k v (omega (arith, within, marks_counted (list_at sent q), keeps.counted.given q o, voted_now)) (is.sends.votes q k v o at)
+
+      -- If no rank had a vertex to colour in this pass, all votes say so.
+      all_nothing : (i : ℕ) → s.round ≡ 2 * i → HasNothing part ended_round history_next i → AreNothing votes
+      unfolding history_next
+      all_nothing i even none r v at = ⊎_elim
+          (λ own.
+          let same : vote ≡ v = same_Some vote v (sym cast ∙ (sym did.mine ∙ (ap (slice_get votes) (sym own) ∙ at))) in
+          ap (λ (x : Vote). x.a) (sym same)
+          ∙ ((is.sends.cast vote cast).pass i even ∙ (ap length (sym (list_old i (omega (arith, even)))) ∙ ap length none.own)))
+          (λ apart.
+          let other : IsOther part.rank part.ranks r = (omega (arith, slice_get_within votes r v at, each), apart) in
+          none.others r v other (this_round r (2 * i) v other (sym even) at))
+          (cases_eq r part.rank)
+
+      was_nothing : (i : ℕ) → 2 * i < s.round → HasNothing part ended_round history_next i → HasNothing part handled old i
+      unfolding history_next
+      was_nothing i early none = record {
+        own = sym (list_old i (omega (arith, early))) ∙ none.own;
+        others = λ q v o at. none.others q v o (sym (early_vote q (2 * i) o early) ∙ at);
+      }
+
+      next_going : (i : ℕ) → 2 * i < s.round + 1 → HasNothing part ended_round history_next i → ⊥
+      next_going i less none = ⊎_elim
+          (λ now. did.something i (sym now) (all_nothing i (sym now) none))
+          (λ apart. let early : 2 * i < s.round = omega (arith, less, apart) in is.ending.going i early (was_nothing i early none))
+          (cases_eq (2 * i) s.round)
+
+      next_coloured : AreColoured part ended_round sent history_next t
+      unfolding history_next
+      next_coloured = record {
+        passes = record {
+          begins = list_old 0 (omega arith) ∙ is.passes.begins;
+          ascends = λ i within. next_ascends i (omega (arith, within, did.round));
+          clashes = λ i place within. next_clashes i place (omega (arith, within, did.round));
+          passes = λ i less. next_pass i (omega (arith, less, did.round));
+        };
+        present = record {
+          list = λ i e. sym (list_new i (omega (arith, e, did.round)));
+          partly = next_partly;
+          own = λ i p e. did.own p ∙ ap (λ (cells : Cells). cells p) (sym (own_new i (omega (arith, e, did.round))));
+          seen = next_seen;
+        };
+        sends = record {
+          all = λ q i o less.
+              let early : 2 * i + 1 < s.round + 1 = omega (arith, less, did.round, ap (voted t.round) did.cast) in
+              is.sends.all q i o (omega (arith, early, voted_now)) ∙ ap (λ (cells : Cells). refreshes_to q cells (refreshes_of part)) (sym (own_old i (omega (arith, early))));
+          some = λ q i o e.
+              keeps.counted.later q (2 * i + 1) o (omega (arith, e, did.round)) ∙ ap (λ (n : ℕ). refreshes_to q (own_next i) (take n (refreshes_of part))) (sym did.done);
+          votes = old_vote;
+          cast = λ v at. absurd (none_some_vote v t.cast did.cast at);
+          whole = λ i v e at. absurd (none_some_vote v t.cast did.cast at);
+        };
+        ending = record {
+          ended = λ e. absurd (true≢false (sym e ∙ did.ended));
+          going = λ i less none. next_going i (omega (arith, less, did.round)) none;
+        };
+      }
+
+pub going_on_keeps : GoingOnKeeps
+going_on_keeps part handled sent s t votes vote cast did keeps = record {
+  history = history_next part handled sent s votes vote cast did.running did.each keeps t did;
+  counted = next_counted part handled sent s votes vote cast did.running did.each keeps t did;
+  refreshes = keeps.refreshes;
+  coloured = λ sound. next_coloured part handled sent s votes vote cast did.running did.each keeps t did (keeps.coloured (round_sound part handled sent s votes vote cast did.running did.each keeps sound));
+}
+
+pub ending_keeps : EndingKeeps
+ending_keeps part handled sent s t votes vote cast did keeps = record {
+  history = keeps.history;
+  counted = end_counted part handled sent s votes vote cast did.running did.each keeps t did;
+  refreshes = keeps.refreshes;
+  coloured = λ sound. end_coloured part handled sent s votes vote cast did.running did.each keeps t did (keeps.coloured (round_sound part handled sent s votes vote cast did.running did.each keeps sound));
+}

@@ -2,6 +2,7 @@
 
 ghost use Rattle.pg_cells.specs.Example.{one_each, pair, parts};
 ghost use Rattle.pg_colour.specs.Example.{lists, state};
+ghost use Rattle.pg_colour.specs.Steps.{OpeningKeeps, HandlingKeeps, ColouringKeeps, SendingKeeps, VotingKeeps, GoingOnKeeps, EndingKeeps};
 ghost use Rattle.pg_colour.specs.Whole.{IsWholeRun, WholeEndsAtOnce, WholeIsFresh, WholeSeesOwners, WholeIsRun, WholeIsColoured, WholeIsProper, OneRankIsFirstFit};
 
 /// Where all that was sent was handled, by ranks among which a graph is divided and which have all ended, they ended with one
@@ -18,6 +19,17 @@ pub fn whole_runs()
     ensures coloured { WholeIsColoured }
     ensures proper { WholeIsProper }
     ensures first_fit { OneRankIsFirstFit }
+{}
+
+/// By which steps a rank keeps what the law asks of it.
+pub fn steps()
+    ensures opening { OpeningKeeps }
+    ensures handling { HandlingKeeps }
+    ensures colouring { ColouringKeeps }
+    ensures sending { SendingKeeps }
+    ensures voting { VotingKeeps }
+    ensures going_on { GoingOnKeeps }
+    ensures ending { EndingKeeps }
 {}
 
 /// A run of two ranks, in which a vertex is coloured twice, meets every premise.
