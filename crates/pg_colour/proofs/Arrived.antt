@@ -1,11 +1,9 @@
 -- What ranks have handled are each other's refreshes, and these leave in the ghosts what the owners had.
-use Rattle.std.proofs.Common.{◌≡◌, ◌≢◌, ◌⊎◌, ◌==◌, cond, ℕ, zero, suc, ◌+◌, ◌*◌, ◌/◌, ◌<◌, ◌≤◌, List, [], ◌∷◌, Option, Some, None, map, filter, slice_get, refl, sym, ◌∙◌, ap, subst, inl, inr, ⊎_elim, arith, All, Contains}
-use Rattle.std.specs.Prelude.{slice_index_or}
+use Rattle.std.proofs.Common.{◌≡◌, ◌≢◌, ◌==◌, ℕ, zero, suc, ◌+◌, ◌*◌, ◌/◌, ◌<◌, ◌≤◌, List, [], ◌∷◌, Option, Some, None, map, filter, slice_get, refl, sym, ◌∙◌, ap, subst, ⊎_elim, arith, All}
 use Rattle.std.proofs.lemmas.Bool.{cases_eq, eq-eqb, ne_eqb, cond-true, cond-false}
 use Rattle.std.proofs.lemmas.Option.{same_Some, none-some, get_or_from_slice_get}
 use Rattle.std.proofs.lemmas.List.Elements.{All-weaker}
 use Rattle.pg_base.specs.Graph.{Graph}
-use Rattle.pg_base.proofs.Members.{contains_first, contains_later}
 use Rattle.pg_dist.specs.Sharing.{Sharing}
 use Rattle.pg_group.specs.declared.messages.Body.{Body}
 use Rattle.pg_group.specs.declared.messages.Vote.{Vote}
@@ -15,16 +13,16 @@ use Rattle.pg_group.specs.Rolls.{voted}
 use Rattle.pg_group.specs.Rounds.{items_of_round}
 use Rattle.pg_adj.specs.declared.arcs.Ghost.{Ghost}
 use Rattle.pg_adj.specs.Portions.{Portion}
-use Rattle.pg_adj.proofs.MirrorLists.{Contains-at, index_of}
+use Rattle.pg_adj.proofs.MirrorLists.{index_of}
 use Rattle.pg_cells.specs.declared.bodies.CellBody.{CellBody}
-use Rattle.pg_cells.specs.declared.bodies.CellBody.TheVariants.{Put, Refresh}
+use Rattle.pg_cells.specs.declared.bodies.CellBody.TheVariants.{Refresh}
 use Rattle.pg_cells.specs.declared.refreshes.PendingRefresh.{PendingRefresh}
 use Rattle.pg_cells.specs.States.{refreshes_of}
 use Rattle.pg_cells.specs.RefreshesMirrored.{AreRefreshesMirrored}
 use Rattle.pg_cells.proofs.Mirror.{mirrored}
 use Rattle.pg_colour.specs.Passes.{Cells}
 use Rattle.pg_colour.specs.Refreshed.{refresh_of, refreshes_to, IsRefreshTo, IsRefreshFrom, AreSound, values_for, last_or, home_of, seen_after}
-use Rattle.pg_colour.specs.LocalColour.{State, History, AreColoured, HasNothing}
+use Rattle.pg_colour.specs.LocalColour.{State, History, AreColoured}
 use Rattle.pg_colour.proofs.Neighbours.{rank_below}
 use Rattle.pg_colour.proofs.Kept.{Kept, turned}
 

@@ -6,7 +6,6 @@ use Rattle.std.proofs.lemmas.Bool.{cases_lt}
 use Rattle.std.proofs.lemmas.Option.{same_Some, slice_get_within}
 use Rattle.std.proofs.lemmas.List.FromFn.{length-range_with_len}
 use Rattle.std.proofs.lemmas.List.Sums.{count_by-le-length}
-use Rattle.pg_base.specs.declared.TheConstants.{MAX_EDGES}
 use Rattle.pg_base.specs.declared.edges.Edge.{Edge}
 use Rattle.pg_base.specs.Graph.{Graph}
 use Rattle.pg_base.specs.Colouring.{IsProper, IsFirstFit}
@@ -14,7 +13,6 @@ use Rattle.pg_dist.specs.Sharing.{Sharing}
 use Rattle.pg_group.specs.declared.messages.Body.{Body}
 use Rattle.pg_group.specs.Book.{PairLists}
 use Rattle.pg_group.specs.Rounds.{items_of_round}
-use Rattle.pg_group.specs.Ranked.{list_at}
 use Rattle.pg_adj.specs.declared.arcs.Ghost.{Ghost}
 use Rattle.pg_adj.specs.Portions.{Portion}
 use Rattle.pg_cells.specs.declared.bodies.CellBody.{CellBody}

@@ -1,7 +1,7 @@
 -- The example of two ranks is a whole run.
-use Rattle.std.proofs.Common.{◌≡◌, ◌≢◌, ◌⊎◌, ◌↔◌, ◌==◌, cond, ℕ, zero, suc, ◌+◌, ◌-◌, ◌*◌, ◌<◌, ◌≤◌, true, false, List, [], ◌∷◌, Option, Some, None, length, map, filter, slice_get, get_or, refl, sym, ◌∙◌, ap, subst, inl, inr, ⊎_elim, arith, All, AllPairs, Contains}
+use Rattle.std.proofs.Common.{◌≡◌, ◌≢◌, ◌⊎◌, ◌↔◌, ◌==◌, ℕ, zero, suc, ◌+◌, ◌-◌, ◌*◌, ◌<◌, ◌≤◌, List, [], ◌∷◌, Some, length, map, slice_get, refl, sym, ◌∙◌, ap, subst, inl, inr, ⊎_elim, arith, All, AllPairs, Contains}
 use Rattle.std.proofs.lemmas.Bool.{cases_eq, eq-eqb, cond-true, true≢false}
-use Rattle.std.proofs.lemmas.Option.{none-some, same_Some, slice_get_within, get_or_from_slice_get}
+use Rattle.std.proofs.lemmas.Option.{none-some, same_Some, slice_get_within}
 use Rattle.std.proofs.lemmas.List.Elements.{All-nil, All-cons}
 use Rattle.pg_base.proofs.Members.{contains_first, contains_cases}
 use Rattle.pg_group.specs.declared.messages.Body.{Body}
@@ -22,7 +22,7 @@ use Rattle.pg_proper.proofs.ExampleRun.{is_graph}
 use Rattle.pg_colour.specs.declared.TheConstants.{NO_COLOUR}
 use Rattle.pg_colour.specs.Passes.{Cells, no_colours, with_cell, row, IsTaken, IsLeastFree, IsClash, Passes}
 use Rattle.pg_colour.specs.Refreshed.{refresh_of, refreshes_to, IsRefreshTo, AreRefreshes, values_for, last_or, seen_after}
-use Rattle.pg_colour.specs.LocalColour.{State, History, own_before, AreCounted, ArePasses, IsPresent, IsVoteIn, AreSent, HasNothing, EndsWell, LocalColour}
+use Rattle.pg_colour.specs.LocalColour.{History, own_before, AreCounted, ArePasses, IsPresent, IsVoteIn, AreSent, HasNothing, LocalColour}
 use Rattle.pg_colour.specs.Whole.{HasEndedOver, IsWholeRun}
 use Rattle.pg_colour.specs.Example.{vote, lane, lists, state}
 use Rattle.pg_colour.proofs.PassesOver.{cell_at, cell_else}

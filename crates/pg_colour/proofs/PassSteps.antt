@@ -1,5 +1,5 @@
 -- A pass that goes one place further, and passes over cells that are alike.
-use Rattle.std.proofs.Common.{◌≡◌, ℕ, ◌<◌, List, [], ◌∷◌, ◌++◌, length, slice_get, sym, ◌∙◌, ap, subst, inl, inr, ⊎_elim}
+use Rattle.std.proofs.Common.{◌≡◌, ℕ, ◌<◌, List, [], ◌∷◌, ◌++◌, length, sym, ◌∙◌, ap, subst, inl, inr, ⊎_elim}
 use Rattle.std.proofs.lemmas.Option.{slice_get_within}
 use Rattle.pg_adj.specs.Portions.{Portion}
 use Rattle.pg_colour.specs.Passes.{Cells, IsTaken, IsLeastFree, with_cell, Passes, IsClash}

@@ -1,11 +1,10 @@
 -- A rank's pass over its places is a pass over the graph's vertices.
-use Rattle.std.proofs.Common.{◌≡◌, ◌≢◌, ◌⊎◌, ◌==◌, cond, ℕ, ◌<◌, ◌≤◌, List, [], ◌∷◌, Option, Some, None, length, map, slice_get, get_or, refl, sym, ◌∙◌, ap, subst, inl, inr, ⊎_elim, arith, All, Contains}
+use Rattle.std.proofs.Common.{◌≡◌, ◌≢◌, ◌==◌, cond, ℕ, ◌<◌, List, [], ◌∷◌, Option, Some, None, length, map, slice_get, refl, sym, ◌∙◌, ap, subst, inl, inr, ⊎_elim, arith, All}
 use Rattle.std.specs.Prelude.{slice_index}
 use Rattle.std.proofs.lemmas.Bool.{cases_eq, eq-eqb, ne_eqb, cond-true, cond-false}
 use Rattle.std.proofs.lemmas.List.{get_or_default}
 use Rattle.std.proofs.lemmas.List.Elements.{All-head, All-tail}
 use Rattle.pg_base.specs.Graph.{Graph, IsGraph}
-use Rattle.pg_base.specs.Colouring.{AreJoined}
 use Rattle.pg_dist.specs.Sharing.{Sharing, IsSharing}
 use Rattle.pg_adj.specs.declared.arcs.Ghost.{Ghost}
 use Rattle.pg_adj.specs.Portions.{Portion}
@@ -15,8 +14,8 @@ use Rattle.pg_proper.proofs.PassLemmas.{some_same, at_it, at_other}
 use Rattle.pg_proper.proofs.Rounds.{none_some}
 use Rattle.pg_proper.proofs.FirstFit.{neighbour_within}
 use Rattle.pg_colour.specs.declared.TheConstants.{NO_COLOUR}
-use Rattle.pg_colour.specs.Passes.{Cells, no_colours, row, EndsAt, IsTaken, IsLeastFree, with_cell, Passes}
-use Rattle.pg_colour.proofs.Neighbours.{rank_below, rank_is, own_vertex, own_below, own_place, arc_is, arc_to, ghost_is, ghost_away, ghost_of_arc}
+use Rattle.pg_colour.specs.Passes.{Cells, IsTaken, IsLeastFree, with_cell, Passes}
+use Rattle.pg_colour.proofs.Neighbours.{rank_is, own_vertex, own_below, own_place, arc_is, arc_to, ghost_away, ghost_of_arc}
 
 -- The colour that a cell holds.
 abbrev pub colour_in : ℕ → Option ℕ

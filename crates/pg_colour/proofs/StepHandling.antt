@@ -1,5 +1,5 @@
 -- A rank keeps its promise as it begins, and when it handles a message.
-use Rattle.std.proofs.Common.{◌≡◌, ◌≢◌, ◌⊎◌, ◌==◌, ℕ, zero, suc, ◌+◌, ◌*◌, ◌<◌, ◌≤◌, true, false, List, [], ◌∷◌, ◌++◌, Option, Some, None, length, take, get_or, slice_get, refl, sym, ◌∙◌, ap, subst, inl, inr, ⊎_elim, arith, All, AllPairs, Contains, true≢false}
+use Rattle.std.proofs.Common.{◌≡◌, ℕ, zero, suc, ◌+◌, ◌*◌, ◌<◌, ◌≤◌, List, [], ◌∷◌, Option, Some, None, length, take, slice_get, refl, sym, ◌∙◌, ap, subst, ⊎_elim, arith, All, AllPairs, true≢false}
 use Rattle.std.specs.List.{range_with_len}
 use Rattle.std.proofs.lemmas.Bool.{cases_eq, cases_Bool}
 use Rattle.std.proofs.lemmas.Option.{none-some}
@@ -19,7 +19,7 @@ use Rattle.pg_cells.specs.States.{refreshes_of}
 use Rattle.pg_colour.specs.declared.TheConstants.{NO_COLOUR}
 use Rattle.pg_colour.specs.Passes.{Cells, no_colours, Passes}
 use Rattle.pg_colour.specs.Refreshed.{refreshes_to, IsRefreshTo, AreRefreshes, AreSound, values_for, last_or, home_of, seen_after}
-use Rattle.pg_colour.specs.LocalColour.{State, History, own_before, AreCounted, ArePasses, IsPresent, IsVoteIn, AreSent, HasNothing, EndsWell, AreColoured, LocalColour}
+use Rattle.pg_colour.specs.LocalColour.{State, History, own_before, AreCounted, IsVoteIn, AreColoured, LocalColour}
 use Rattle.pg_colour.specs.Steps.{IsOpening, OpeningKeeps, HasHandled, HandlingKeeps}
 use Rattle.pg_colour.proofs.StepLists.{none_at, votes-item}
 use Rattle.pg_colour.proofs.PassSteps.{pass_end}

@@ -1,17 +1,17 @@
 -- Lists by rank that grow by an item or by marks.
-use Rattle.std.proofs.Common.{◌≡◌, ◌≢◌, ◌⊎◌, ℕ, zero, suc, ◌+◌, ◌<◌, ◌≤◌, List, [], ◌∷◌, ◌++◌, Some, length, slice_get, replicate, refl, sym, ◌∙◌, ap, subst, inl, inr, ⊎_elim, arith}
-use Rattle.std.proofs.lemmas.Bool.{cases_eq, cases_lt, cases_order}
+use Rattle.std.proofs.Common.{◌≡◌, ◌≢◌, ℕ, zero, suc, ◌<◌, ◌≤◌, List, [], ◌∷◌, ◌++◌, Some, length, slice_get, refl, sym, ◌∙◌, ap, subst, ⊎_elim, arith}
+use Rattle.std.proofs.lemmas.Bool.{cases_lt}
 use Rattle.std.proofs.lemmas.Option.{none-some}
 use Rattle.pg_group.specs.declared.messages.Body.{Body}
 use Rattle.pg_group.specs.declared.messages.Body.TheVariants.{Item, Mark}
 use Rattle.pg_group.specs.declared.messages.Vote.{Vote}
-use Rattle.pg_group.specs.Ranked.{list_at, append_at}
+use Rattle.pg_group.specs.Ranked.{list_at}
 use Rattle.pg_group.specs.Rounds.{marks, items_of_round, votes_of}
 use Rattle.pg_group.specs.Supersteps.{nothing, append_each, append_marks}
 use Rattle.pg_group.proofs.Counting.{marks_counted}
 use Rattle.pg_group.proofs.Growing.{push_before, push_last}
 use Rattle.pg_group.proofs.Lanes.{items_of_round-push}
-use Rattle.pg_group.proofs.RollLemmas.{marks-mark, round-mark, round-ended, round-to_come}
+use Rattle.pg_group.proofs.RollLemmas.{round-mark, round-ended, round-to_come}
 
 module _ {B : Type 0} where
   pub votes-item : (bs : List (Body B)) (x : B) → votes_of (bs ++ Item x ∷ []) ≡ votes_of bs

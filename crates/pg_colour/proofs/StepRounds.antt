@@ -1,7 +1,7 @@
 -- A rank keeps its promise when it votes, goes on to the next round, and ends.
-use Rattle.std.proofs.Common.{◌≡◌, ◌≢◌, ◌⊎◌, ◌↔◌, ◌==◌, cond, ℕ, zero, suc, ◌+◌, ◌-◌, ◌*◌, ◌<◌, ◌≤◌, true, false, List, [], ◌∷◌, ◌++◌, Option, Some, None, length, take, get_or, slice_get, refl, sym, ◌∙◌, ap, subst, inl, inr, ⊎_elim, arith, All, AllPairs, Contains, true≢false}
-use Rattle.std.proofs.lemmas.Bool.{cases_eq, cases_lt, cases_order, eq-eqb, ne_eqb, cond-true, cond-false}
-use Rattle.std.proofs.lemmas.Option.{same_Some, none-some, slice_get_within}
+use Rattle.std.proofs.Common.{◌≡◌, ◌↔◌, ◌==◌, cond, ℕ, zero, suc, ◌+◌, ◌-◌, ◌*◌, ◌<◌, ◌≤◌, false, List, [], ◌∷◌, ◌++◌, Some, length, take, slice_get, refl, sym, ◌∙◌, ap, subst, ⊎_elim, arith, All, AllPairs, Contains, true≢false}
+use Rattle.std.proofs.lemmas.Bool.{cases_eq, cases_lt, eq-eqb, ne_eqb, cond-true, cond-false}
+use Rattle.std.proofs.lemmas.Option.{same_Some, slice_get_within}
 use Rattle.std.proofs.lemmas.List.{take_all, length_push}
 use Rattle.pg_group.specs.declared.messages.Body.{Body}
 use Rattle.pg_group.specs.declared.messages.Body.TheVariants.{Mark}
@@ -18,7 +18,7 @@ use Rattle.pg_cells.specs.States.{refreshes_of}
 use Rattle.pg_colour.specs.Passes.{Cells, Passes, IsClash}
 use Rattle.pg_colour.specs.Refreshed.{refreshes_to, IsRefreshTo, IsRefreshFrom, AreRefreshes, AreSound, seen_after}
 use Rattle.pg_colour.specs.LocalColour.{State, History, own_before, AreCounted, IsVoteIn, HasNothing, AreColoured, LocalColour}
-use Rattle.pg_colour.specs.Steps.{IsVoteOf, HasVoted, VotingKeeps, AreNothing, AreClashes, HasGoneOn, GoingOnKeeps, HasStopped, EndingKeeps}
+use Rattle.pg_colour.specs.Steps.{IsVoteOf, HasVoted, VotingKeeps, AreNothing, HasGoneOn, GoingOnKeeps, HasStopped, EndingKeeps}
 use Rattle.pg_colour.proofs.StepLists.{votes-mark, vote_before, vote_last, marks_at, marks_own, items_marks}
 use Rattle.pg_colour.proofs.PassSteps.{SeenAlike, clash_alike, pass_end}
 use Rattle.pg_colour.proofs.Seeing.{passes_kept, nothing_kept, seen_agree, seen_rest, seen_behind, none_later}

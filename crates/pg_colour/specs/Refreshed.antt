@@ -1,7 +1,7 @@
 -- What ranks tell each other in the odd rounds: each own cell goes to every holder of its vertex.
 -- Source: ghost cells after Gregor and Lumsdaine, Lifting Sequential Graph Algorithms for Distributed-Memory Parallel
 -- Computation (OOPSLA 2005).
-use Rattle.std.specs.Prelude.{◌≡◌, ◌==◌, cond, ℕ, zero, suc, ◌+◌, ◌*◌, ◌<◌, List, [], ◌∷◌, Some, map, filter, slice_get, slice_index_or, All, Contains}
+use Rattle.std.specs.Prelude.{◌≡◌, ◌==◌, cond, ℕ, zero, suc, ◌+◌, ◌*◌, List, [], ◌∷◌, Some, map, filter, slice_get, slice_index_or, All, Contains}
 use Rattle.pg_group.specs.declared.messages.Body.{Body}
 use Rattle.pg_group.specs.Ranked.{IsOther, list_at}
 use Rattle.pg_group.specs.Rounds.{items_of_round}
