@@ -22,7 +22,7 @@ use Rattle.pg_cells.specs.RefreshesMirrored.{AreRefreshesMirrored}
 use Rattle.pg_cells.proofs.Mirror.{mirrored}
 use Rattle.pg_colour.specs.Passes.{Cells}
 use Rattle.pg_colour.specs.Refreshed.{refresh_of, refreshes_to, IsRefreshTo, IsRefreshFrom, AreSound, values_for, last_or, home_of, seen_after}
-use Rattle.pg_colour.specs.LocalColour.{State, History, AreColoured}
+use Rattle.pg_colour.specs.LocalColour.{State, History, KeepsPasses}
 use Rattle.pg_colour.proofs.Neighbours.{rank_below}
 use Rattle.pg_colour.proofs.Kept.{Kept, turned}
 
@@ -111,7 +111,7 @@ module _ (s : Sharing) (g : Graph) (parts : List Portion) (states : ℕ → Stat
         ((k.refreshes from o.0).odd q j (k.other from q o.0 t)));
   }
 
-  pub colours : (r : ℕ) → r < s.ranks → AreColoured (part r) (handled r) (promised r) (history r) (states r)
+  pub colours : (r : ℕ) → r < s.ranks → KeepsPasses (part r) (handled r) (promised r) (history r) (states r)
   colours r h = k.coloured r h (sound r h)
 
   -- The number of the last pass.
@@ -122,15 +122,15 @@ module _ (s : Sharing) (g : Graph) (parts : List Portion) (states : ℕ → Stat
   unfolding last
   round_is r h =
       let e = (colours r h).ending.ended (k.ended r h) in
-      let j : ℕ = e.0 in
-      omega (arith, e.1, k.same_round r h)
+      let j : ℕ = e.pass in
+      omega (arith, e.round_is, k.same_round r h)
 
   pub nothing_left : (r : ℕ) → r < s.ranks → (history r).list last ≡ []
   nothing_left r h =
       let e = (colours r h).ending.ended (k.ended r h) in
-      let j : ℕ = e.0 in
-      let same : j ≡ last = omega (arith, e.1, round_is r h) in
-      ap (history r).list (sym same) ∙ e.2.own
+      let j : ℕ = e.pass in
+      let same : j ≡ last = omega (arith, e.round_is, round_is r h) in
+      ap (history r).list (sym same) ∙ e.nothing.own
 
   module _ (q slot : ℕ) (x : Ghost) (h : q < s.ranks) (held : slice_get (part q).ghosts slot ≡ Some x) where
     abbrev home : ℕ

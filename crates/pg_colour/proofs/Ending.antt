@@ -1,5 +1,5 @@
 -- What the colours of a whole run are.
-use Rattle.std.proofs.Common.{◌≡◌, ℕ, zero, suc, ◌+◌, ◌*◌, ◌<◌, ◌≤◌, List, [], ◌∷◌, Some, length, slice_get, sym, ◌∙◌, ap, subst, arith, refl}
+use Rattle.std.proofs.Common.{◌≡◌, ℕ, zero, suc, ◌+◌, ◌*◌, ◌<◌, ◌≤◌, List, [], ◌∷◌, Some, length, slice_get, sym, ◌∙◌, ap, subst, arith, refl, All}
 use Rattle.std.specs.Prelude.{◌||◌, ◌==◌}
 use Rattle.std.specs.List.{range_with_len}
 use Rattle.std.proofs.lemmas.Bool.{cases_lt}
@@ -12,6 +12,7 @@ use Rattle.pg_base.specs.Colouring.{IsProper, IsFirstFit}
 use Rattle.pg_dist.specs.Sharing.{Sharing}
 use Rattle.pg_group.specs.declared.messages.Body.{Body}
 use Rattle.pg_group.specs.Book.{PairLists}
+use Rattle.pg_group.specs.Ranked.{IsOther, list_at}
 use Rattle.pg_group.specs.Rounds.{items_of_round}
 use Rattle.pg_adj.specs.declared.arcs.Ghost.{Ghost}
 use Rattle.pg_adj.specs.Portions.{Portion}
@@ -20,11 +21,11 @@ use Rattle.pg_proper.specs.Runs.{Run}
 use Rattle.pg_proper.proofs.Rounds.{end_is_proper}
 use Rattle.pg_proper.proofs.FirstFit.{one_rank_is_first_fit}
 use Rattle.pg_colour.specs.declared.TheConstants.{NO_COLOUR}
-use Rattle.pg_colour.specs.Refreshed.{values_for, seen_after}
+use Rattle.pg_colour.specs.Refreshed.{IsRefreshFrom, AreSound, values_for, seen_after}
 use Rattle.pg_colour.specs.LocalColour.{State, History}
-use Rattle.pg_colour.specs.Whole.{IsWholeRun, IsRunOf, AreFresh, colour_of, WholeEndsAtOnce, WholeIsFresh, WholeSeesOwners, WholeIsRun, WholeIsColoured, WholeIsProper, OneRankIsFirstFit}
-use Rattle.pg_colour.proofs.Neighbours.{rank_below}
-use Rattle.pg_colour.proofs.Kept.{Kept, turned, part_by, history_by, handled_by, promised_by, is_kept, are_histories}
+use Rattle.pg_colour.specs.Whole.{HasEndedOver, IsWholeRun, IsRunOf, AreHistories, AreFresh, colour_of, WholeEndsTogether, WholeIsSound, WholeIsFresh, WholeSeesOwners, WholeIsRun, WholeIsColoured, WholeIsProper, OneRankIsFirstFit}
+use Rattle.pg_colour.proofs.Neighbours.{rank_below, ghost_is}
+use Rattle.pg_colour.proofs.Kept.{Kept, turned, part_by, history_by, handled_by, promised_by, is_kept, are_histories, handled_is_taken}
 use Rattle.pg_colour.proofs.Arrived as arrived
 use Rattle.pg_colour.proofs.Rules as run
 
@@ -95,73 +96,94 @@ module _ (s : Sharing) (g : Graph) (parts : List Portion) (states : ℕ → Stat
   first_fit one = one_rank_is_first_fit (run.the_run s g parts states sent part history handled promised k) end (colour_of s states)
       (run.rules s g parts states sent part history handled promised k) one (run.answer s g parts states sent part history handled promised k)
 
-pub whole_ends_at_once : WholeEndsAtOnce
-whole_ends_at_once s g parts states sent taken run q r h l =
-    let k = is_kept s g parts states sent taken run in
-    k.same_round q h ∙ sym (k.same_round r l)
-
-module _ (s : Sharing) (g : Graph) (parts : List Portion) (states : ℕ → State) (sent taken : PairLists CellBody) (is : IsWholeRun s g parts states sent taken) where
+module _ (s : Sharing) (g : Graph) (parts : List Portion) (states : ℕ → State) (sent taken : PairLists CellBody) (is : IsWholeRun s g parts states sent taken)
+    (histories : ℕ → History) (are : AreHistories s parts states sent taken histories) where
   abbrev part_of : ℕ → Portion
   part_of r = part_by s g parts states sent taken is r (cases_lt r s.ranks)
 
-  abbrev history_of : ℕ → History
-  history_of r = history_by s g parts states sent taken is r (cases_lt r s.ranks)
-
   abbrev handled_of : ℕ → List (List (Body CellBody))
-  handled_of r = handled_by s g parts states sent taken is r (cases_lt r s.ranks)
+  handled_of r = handled_by s g parts states sent taken is histories are r (cases_lt r s.ranks)
 
   abbrev promised_of : ℕ → List (List (Body CellBody))
-  promised_of r = promised_by s g parts states sent taken is r (cases_lt r s.ranks)
+  promised_of r = promised_by s g parts states sent taken is histories are r (cases_lt r s.ranks)
 
-  kept : Kept s g parts states sent part_of history_of handled_of promised_of
-  kept = is_kept s g parts states sent taken is
+  all_kept : Kept s g parts states sent part_of histories handled_of promised_of
+  all_kept = is_kept s g parts states sent taken is histories are
 
-  all_fresh : (j : ℕ) → 2 * j + 1 < (states 0).round → AreFresh parts history_of sent j
-  all_fresh j less rank slot p x at there = fresh s g parts states sent part_of history_of handled_of promised_of kept rank slot p x at there j less
+  all_together : (q r : ℕ) → q < s.ranks → r < s.ranks → (states q).round ≡ (states r).round
+  all_together q r h l = all_kept.same_round q h ∙ sym (all_kept.same_round r l)
 
-  all_see : (rank slot : ℕ) (p : Portion) (x : Ghost) → slice_get parts rank ≡ Some p → slice_get p.ghosts slot ≡ Some x → (states rank).seen slot ≡ (states x.home.0).own x.place
-  all_see rank slot p x at there = sees s g parts states sent part_of history_of handled_of promised_of kept rank slot p x at there
+  -- What was taken is sound, by whichever lists a rank kept its promise.
+  all_sound : (r : ℕ) (p : Portion) → slice_get parts r ≡ Some p → (kept : HasEndedOver s.ranks r sent taken p (states r)) → AreSound p kept.handled
+  all_sound r p at kept =
+      let h = rank_below s g parts is.sharing is.graph is.vertices is.divided r p at in
+      let same : part_of r ≡ p = part_is s g parts states sent part_of histories handled_of promised_of all_kept r p at in
+      let sound : AreSound p (handled_of r) =
+      subst (λ (x : Portion). AreSound x (handled_of r)) same (arrived.sound s g parts states sent part_of histories handled_of promised_of all_kept r h) in
+      let lists : (from : ℕ) → IsOther p.rank p.ranks from → list_at (handled_of r) from ≡ list_at kept.handled from = λ from other.
+      let o : IsOther r s.ranks from = all_kept.back r from h (subst (λ (x : Portion). IsOther x.rank x.ranks from) (sym same) other) in
+      handled_is_taken s g parts states sent taken is histories are r from h o ∙ sym (kept.handled_is from o) in
+      record {
+        even = λ from j other. ap (items_of_round (2 * j)) (sym (lists from other)) ∙ sound.even from j other;
+        odd = λ from j other. subst (λ (list : List (Body CellBody)). All (IsRefreshFrom p from) (items_of_round (2 * j + 1) list)) (lists from other) (sound.odd from j other);
+      }
 
-  run_of : Run
-  run_of = run.the_run s g parts states sent part_of history_of handled_of promised_of kept
+  all_fresh : (r j : ℕ) → r < s.ranks → 2 * j + 1 < (states r).round → AreFresh parts histories sent j
+  all_fresh r j h less rank slot p x at there =
+      fresh s g parts states sent part_of histories handled_of promised_of all_kept rank slot p x at there j (omega (arith, less, all_kept.same_round r h))
 
-  last_of : ℕ
-  last_of = arrived.last s g parts states sent part_of history_of handled_of promised_of kept
+  all_see : (rank slot : ℕ) (p : Portion) (x : Ghost) → slice_get parts rank ≡ Some p → slice_get p.ghosts slot ≡ Some x → (states rank).seen slot ≡ colour_of s states x.vertex.0
+  all_see rank slot p x at there =
+      let remote = ghost_is s g parts is.sharing is.graph is.vertices is.divided rank p at slot x there in
+      sees s g parts states sent part_of histories handled_of promised_of all_kept rank slot p x at there
+      ∙ (λ i. (states (remote.home i)).own (remote.place i))
 
-  is_run_of : IsRunOf s g states run_of last_of
-  unfolding run_of last_of run.the_run
-  is_run_of = record {
-    graph = refl;
-    ranks = refl;
-    rules = run.rules s g parts states sent part_of history_of handled_of promised_of kept;
-    ended = run.has_ended s g parts states sent part_of history_of handled_of promised_of kept;
-    answer = run.answer s g parts states sent part_of history_of handled_of promised_of kept;
-  }
+  run_of : (the : Run) × (last : ℕ) × IsRunOf s g parts states histories the last
+  run_of = (
+    run.the_run s g parts states sent part_of histories handled_of promised_of all_kept,
+    arrived.last s g parts states sent part_of histories handled_of promised_of all_kept,
+    run.is_run_of s g parts states sent part_of histories handled_of promised_of all_kept,
+  )
 
   all_coloured : (v : ℕ) → 1 ≤ v → v ≤ g.n → colour_of s states v < NO_COLOUR
-  all_coloured = coloured s g parts states sent part_of history_of handled_of promised_of kept
+  all_coloured = coloured s g parts states sent part_of histories handled_of promised_of all_kept
 
   all_proper : IsProper g (colour_of s states)
-  all_proper = proper s g parts states sent part_of history_of handled_of promised_of kept
+  all_proper = proper s g parts states sent part_of histories handled_of promised_of all_kept
 
   fits_first : s.ranks ≡ 1 → IsFirstFit g (colour_of s states)
-  fits_first = first_fit s g parts states sent part_of history_of handled_of promised_of kept
+  fits_first = first_fit s g parts states sent part_of histories handled_of promised_of all_kept
+
+-- The histories of the promises that the run has.
+abbrev some_histories : (s : Sharing) (g : Graph) (parts : List Portion) (states : ℕ → State) (sent taken : PairLists CellBody) → IsWholeRun s g parts states sent taken → ℕ → History
+some_histories s g parts states sent taken is r = history_by s g parts states sent taken is r (cases_lt r s.ranks)
+
+pub whole_ends_together : WholeEndsTogether
+whole_ends_together s g parts states sent taken is =
+    all_together s g parts states sent taken is (some_histories s g parts states sent taken is) (are_histories s g parts states sent taken is)
+
+pub whole_is_sound : WholeIsSound
+whole_is_sound s g parts states sent taken is =
+    all_sound s g parts states sent taken is (some_histories s g parts states sent taken is) (are_histories s g parts states sent taken is)
 
 pub whole_is_fresh : WholeIsFresh
-whole_is_fresh s g parts states sent taken is =
-    (history_of s g parts states sent taken is, are_histories s g parts states sent taken is, all_fresh s g parts states sent taken is)
+whole_is_fresh s g parts states sent taken is histories are = all_fresh s g parts states sent taken is histories are
 
 pub whole_sees_owners : WholeSeesOwners
-whole_sees_owners s g parts states sent taken is = all_see s g parts states sent taken is
+whole_sees_owners s g parts states sent taken is =
+    all_see s g parts states sent taken is (some_histories s g parts states sent taken is) (are_histories s g parts states sent taken is)
 
 pub whole_is_run : WholeIsRun
-whole_is_run s g parts states sent taken is = (run_of s g parts states sent taken is, last_of s g parts states sent taken is, is_run_of s g parts states sent taken is)
+whole_is_run s g parts states sent taken is histories are = run_of s g parts states sent taken is histories are
 
 pub whole_is_coloured : WholeIsColoured
-whole_is_coloured s g parts states sent taken is = all_coloured s g parts states sent taken is
+whole_is_coloured s g parts states sent taken is =
+    all_coloured s g parts states sent taken is (some_histories s g parts states sent taken is) (are_histories s g parts states sent taken is)
 
 pub whole_is_proper : WholeIsProper
-whole_is_proper s g parts states sent taken is = all_proper s g parts states sent taken is
+whole_is_proper s g parts states sent taken is =
+    all_proper s g parts states sent taken is (some_histories s g parts states sent taken is) (are_histories s g parts states sent taken is)
 
 pub one_rank_fits_first : OneRankIsFirstFit
-one_rank_fits_first s g parts states sent taken is = fits_first s g parts states sent taken is
+one_rank_fits_first s g parts states sent taken is =
+    fits_first s g parts states sent taken is (some_histories s g parts states sent taken is) (are_histories s g parts states sent taken is)

@@ -22,7 +22,7 @@ use Rattle.pg_proper.proofs.ExampleRun.{is_graph}
 use Rattle.pg_colour.specs.declared.TheConstants.{NO_COLOUR}
 use Rattle.pg_colour.specs.Passes.{Cells, no_colours, with_cell, row, IsTaken, IsLeastFree, IsClash, Passes}
 use Rattle.pg_colour.specs.Refreshed.{refresh_of, refreshes_to, IsRefreshTo, AreRefreshes, values_for, last_or, seen_after}
-use Rattle.pg_colour.specs.LocalColour.{History, own_before, AreCounted, ArePasses, IsPresent, IsVoteIn, AreSent, HasNothing, LocalColour}
+use Rattle.pg_colour.specs.LocalColour.{History, own_before, AreCounted, ArePasses, IsPresent, IsVoteIn, AreSent, AreVotes, HasNothing, LocalColour}
 use Rattle.pg_colour.specs.Whole.{HasEndedOver, IsWholeRun}
 use Rattle.pg_colour.specs.Example.{vote, lane, lists, state}
 use Rattle.pg_colour.proofs.PassesOver.{cell_at, cell_else}
@@ -152,6 +152,7 @@ module _ (r o : ℕ) (apart : r ≢ o) (small : r < 2) (near : o < 2) (handled p
     alone = alone;
     running = λ e. absurd (true≢false e);
     closed = λ e q other. ap marks (taken_from q other);
+    stopped = λ e none. absurd (none-some (vote 0) (sym none));
     given = λ q other. ap marks (sent_to q other);
     later = λ q k other h. ap (items_of_round k) (sent_to q other) ∙ past r k (omega (arith, h));
   }
@@ -313,6 +314,7 @@ module _ (r o : ℕ) (apart : r ≢ o) (small : r < 2) (near : o < 2) (handled p
   present = record {
     list = λ j e. sym (ap (list_of r) (third j e) ∙ last_list);
     partly = λ j e. subst (λ (i : ℕ). Passes p (seen_after p handled (2 * i)) [] (own_before (history r) i) (with_cell no_colours 0 r)) (sym (third j e)) last_pass;
+    coloured_all = λ j v e at. refl;
     own = λ j place e. absurd (omega (arith, e));
     seen = λ slot h. seen_end slot h;
   }
@@ -332,9 +334,12 @@ module _ (r o : ℕ) (apart : r ≢ o) (small : r < 2) (near : o < 2) (handled p
         ap (items_of_round (2 * j + 1)) (sent_to q other)
         ∙ (round_sent j h ∙ sym (ap (λ (x : ℕ). refreshes_to x (own_of r j) (refreshes_of p)) (other_is q other) ∙ refreshes_are (own_of r j)));
     some = λ q j other e. absurd (omega (arith, e));
+  }
+
+  votes : AreVotes p promised (history r) (state r)
+  votes = record {
     votes = λ q k v other at. vote_at r k v small (ap (λ (list : List (Body CellBody)). slice_get (votes_of list) k) (sym (sent_to q other)) ∙ at);
     cast = λ v at. vote_at r 4 v small at;
-    whole = λ j v e at. refl;
   }
 
   not_yet : (j : ℕ) → 2 * j < 4 → HasNothing p handled (history r) j → ⊥
@@ -363,7 +368,8 @@ module _ (r o : ℕ) (apart : r ≢ o) (small : r < 2) (near : o < 2) (handled p
       passes = are_passes;
       present = present;
       sends = sends;
-      ending = record { ended = λ e. (2, refl, at_last); going = not_yet };
+      voting = votes;
+      ending = record { ended = λ e. record { pass = 2; round_is = refl; nothing = at_last }; going = not_yet };
     };
   }
 

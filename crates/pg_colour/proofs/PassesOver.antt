@@ -1,5 +1,5 @@
 -- A rank's pass over its places is a pass over the graph's vertices.
-use Rattle.std.proofs.Common.{◌≡◌, ◌≢◌, ◌==◌, cond, ℕ, ◌<◌, List, [], ◌∷◌, Option, Some, None, length, map, slice_get, refl, sym, ◌∙◌, ap, subst, inl, inr, ⊎_elim, arith, All}
+use Rattle.std.proofs.Common.{◌≡◌, ◌≢◌, ◌==◌, ℕ, ◌<◌, List, [], ◌∷◌, Some, None, length, map, slice_get, refl, sym, ◌∙◌, ap, subst, inl, inr, ⊎_elim, arith, All}
 use Rattle.std.specs.Prelude.{slice_index}
 use Rattle.std.proofs.lemmas.Bool.{cases_eq, eq-eqb, ne_eqb, cond-true, cond-false}
 use Rattle.std.proofs.lemmas.List.{get_or_default}
@@ -15,11 +15,8 @@ use Rattle.pg_proper.proofs.Rounds.{none_some}
 use Rattle.pg_proper.proofs.FirstFit.{neighbour_within}
 use Rattle.pg_colour.specs.declared.TheConstants.{NO_COLOUR}
 use Rattle.pg_colour.specs.Passes.{Cells, IsTaken, IsLeastFree, with_cell, Passes}
+use Rattle.pg_colour.specs.Whole.{colour_in}
 use Rattle.pg_colour.proofs.Neighbours.{rank_is, own_vertex, own_below, own_place, arc_is, arc_to, ghost_away, ghost_of_arc}
-
--- The colour that a cell holds.
-abbrev pub colour_in : ℕ → Option ℕ
-colour_in x = cond (x == NO_COLOUR) None (Some x)
 
 pub colour_some : (x : ℕ) → x ≢ NO_COLOUR → colour_in x ≡ Some x
 colour_some x apart = cond-false (x == NO_COLOUR) None (Some x) (ne_eqb x NO_COLOUR apart)

@@ -22,9 +22,10 @@ use Rattle.pg_colour.specs.declared.TheConstants.{NO_COLOUR}
 use Rattle.pg_colour.specs.Passes.{Cells, IsClash, Passes}
 use Rattle.pg_colour.specs.Refreshed.{seen_after}
 use Rattle.pg_colour.specs.LocalColour.{State, History, own_before}
-use Rattle.pg_colour.specs.Whole.{colour_of}
-use Rattle.pg_colour.proofs.Neighbours.{own_vertex, own_below, own_place, ascend, arc_is, arc_to, ghost_is, ghost_away, ghost_of_arc}
-use Rattle.pg_colour.proofs.PassesOver.{colour_in, colour_none, some_colour, same_colour, Agrees, pass_over}
+use Rattle.pg_colour.specs.Whole.{colour_of, colour_in, IsRunOf}
+use Rattle.std.proofs.lemmas.Option.{same_Some}
+use Rattle.pg_colour.proofs.Neighbours.{rank_below, own_vertex, own_below, own_place, ascend, arc_is, arc_to, ghost_is, ghost_away, ghost_of_arc}
+use Rattle.pg_colour.proofs.PassesOver.{colour_none, some_colour, same_colour, Agrees, pass_over}
 use Rattle.pg_colour.proofs.Kept.{Kept}
 use Rattle.pg_colour.proofs.Arrived.{colours, last, round_is, nothing_left, seen_is}
 
@@ -252,6 +253,30 @@ module _ (s : Sharing) (g : Graph) (parts : List Portion) (states : ℕ → Stat
       let c : ℕ = has.0 in
       let is : colour_of s states v ≡ c = some_colour (colour_of s states v) c (sym (full_last v) ∙ has.1) in
       has.1 ∙ ap (λ (x : ℕ). Some x) (sym is)
+
+  part_same : (r : ℕ) (p : Portion) → slice_get parts r ≡ Some p → part r ≡ p
+  part_same r p at = same_Some (part r) p (sym (k.there r (rank_below s g parts k.sharing k.graph k.vertices k.divided r p at)) ∙ at)
+
+  run_colour : (r j i : ℕ) → r < s.ranks → j < end → i < length (part r).vertices → full j (slice_index (part r).vertices i) ≡ colour_in ((history r).own j i)
+  run_colour r j i h less below = full_own r h i j below ∙ ap (λ (cells : Cells). colour_in (cells i)) (cell_before r j less)
+
+  pub is_run_of : IsRunOf s g parts states history the_run end
+  unfolding the_run
+  is_run_of = record {
+    graph = refl;
+    ranks = refl;
+    owner = λ v. refl;
+    rounds = λ r h. round_is s g parts states sent part history handled promised k r h;
+    own = λ r p at. ap (λ (x : Portion). x.vertices) (part_same r p at);
+    lists = λ r j p at within. ap (λ (x : Portion). map (slice_index x.vertices) ((history r).list j)) (part_same r p at);
+    colours = λ r j i p at less below.
+        let is = part_same r p at in
+        let h = rank_below s g parts k.sharing k.graph k.vertices k.divided r p at in
+        subst (λ (x : Portion). i < length x.vertices → full j (slice_index x.vertices i) ≡ colour_in ((history r).own j i)) is (λ inside. run_colour r j i h less inside) below;
+    rules = rules;
+    ended = has_ended;
+    answer = answer;
+  }
 
   -- After a pass over nothing the own cells are those of the pass before.
   pub cell_stays : (r i j : ℕ) → r < s.ranks → end ≡ suc j → (states r).own i ≡ (history r).own j i

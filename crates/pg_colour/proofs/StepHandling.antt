@@ -19,7 +19,7 @@ use Rattle.pg_cells.specs.States.{refreshes_of}
 use Rattle.pg_colour.specs.declared.TheConstants.{NO_COLOUR}
 use Rattle.pg_colour.specs.Passes.{Cells, no_colours, Passes}
 use Rattle.pg_colour.specs.Refreshed.{refreshes_to, IsRefreshTo, AreRefreshes, AreSound, values_for, last_or, home_of, seen_after}
-use Rattle.pg_colour.specs.LocalColour.{State, History, own_before, AreCounted, IsVoteIn, AreColoured, LocalColour}
+use Rattle.pg_colour.specs.LocalColour.{State, History, own_before, AreCounted, IsVoteIn, KeepsPasses, LocalColour}
 use Rattle.pg_colour.specs.Steps.{IsOpening, OpeningKeeps, HasHandled, HandlingKeeps}
 use Rattle.pg_colour.proofs.StepLists.{none_at, votes-item}
 use Rattle.pg_colour.proofs.PassSteps.{pass_end}
@@ -68,6 +68,7 @@ module _ (part : Portion) (s : State) (is : IsOpening part s) where
     alone = none_at part.ranks part.rank;
     running = λ e q o. ap marks (none_at part.ranks q) ∙ sym is.round;
     closed = λ e. absurd (true≢false (sym e ∙ is.ended));
+    stopped = λ e. absurd (true≢false (sym e ∙ is.ended));
     given = λ q o. ap marks (none_at part.ranks q) ∙ (sym is.round ∙ ap (voted s.round) (sym is.cast));
     later = λ q k o h. ap (items_of_round k) (none_at part.ranks q);
   }
@@ -87,7 +88,7 @@ module _ (part : Portion) (s : State) (is : IsOpening part s) where
       subst (λ (i : ℕ). Passes part (seen_after part none (2 * j)) (take s.done s.list) (own_before history i) s.own) (sym (zeroth j e))
       (subst (λ (n : ℕ). Passes part (seen_after part none (2 * j)) (take n s.list) no_colours s.own) (sym is.done) first)
 
-  opening_coloured : AreColoured part none none history s
+  opening_coloured : KeepsPasses part none none history s
   opening_coloured = record {
     passes = record {
       begins = first_is (length part.vertices);
@@ -99,15 +100,17 @@ module _ (part : Portion) (s : State) (is : IsOpening part s) where
     present = record {
       list = opening_first;
       partly = opening_pass;
+      coloured_all = λ j v e at. absurd (none_some_vote v s.cast is.cast at);
       own = λ j place e. absurd (omega (arith, e, is.round));
       seen = λ slot h. is.seen slot h ∙ sym (seen_nothing part part.ranks (s.round + 2) slot);
     };
     sends = record {
       all = λ q j o h. absurd (omega (arith, h, ap (voted s.round) is.cast, is.round));
       some = λ q j o e. absurd (omega (arith, e, is.round));
+    };
+    voting = record {
       votes = λ q k v o at. absurd (none-some v (sym (ap (λ (list : List (Body CellBody)). slice_get (votes_of list) k) (none_at part.ranks q)) ∙ at));
       cast = λ v at. absurd (none_some_vote v s.cast is.cast at);
-      whole = λ j v e at. absurd (none_some_vote v s.cast is.cast at);
     };
     ending = record {
       ended = λ e. absurd (true≢false (sym e ∙ is.ended));
@@ -164,13 +167,14 @@ module _ (part : Portion) (handled sent : List (List (Body CellBody))) (s t : St
     to_each = counts.to_each;
     alone = list_at-append_else handled from part.rank (Item m) (λ e. other.1 (sym e)) ∙ counts.alone;
     running = λ e q o. marks_kept q ∙ (counts.running (sym after.ended ∙ e) q o ∙ sym after.round);
+    stopped = λ e none. counts.stopped (sym after.ended ∙ e) (sym after.cast ∙ none);
     closed = λ e q o. marks_kept q ∙ (counts.closed (sym after.ended ∙ e) q o ∙ ap suc (sym after.round));
     given = λ q o. counts.given q o ∙ (λ i. voted (sym after.round i) (sym after.cast i));
     later = λ q k o late. counts.later q k o (omega (arith, late, after.round));
   }
 
   module _ (sound : AreSound part more) where
-    is : AreColoured part handled sent h s
+    is : KeepsPasses part handled sent h s
     is = keeps.coloured (was_sound part handled from m here other sound)
 
     seen_early : (n : ℕ) → n ≤ s.round → seen_after part handled n ≡ seen_after part more n
@@ -203,12 +207,13 @@ module _ (part : Portion) (handled sent : List (List (Body CellBody))) (s t : St
     votes_same : (j q : ℕ) → slice_get (votes_of (list_at handled q)) (2 * j) ≡ slice_get (votes_of (list_at more q)) (2 * j)
     votes_same j q = ap (λ (votes : List Vote). slice_get votes (2 * j)) (sym (votes_kept q))
 
-    coloured : AreColoured part more sent h t
+    coloured : KeepsPasses part more sent h t
     coloured = record {
       passes = passes_kept part handled more s.round t.round h after.round seen_early is.passes;
       present = record {
         list = λ j e. after.list ∙ is.present.list j (sym after.round ∙ e);
         partly = partly;
+        coloured_all = λ j v e at. after.done ∙ (is.present.coloured_all j v (sym after.round ∙ e) (sym after.cast ∙ at) ∙ ap length (sym after.list));
         own = λ j place e. own_stays place ∙ is.present.own j place (sym after.round ∙ e);
         seen = seen_now;
       };
@@ -216,12 +221,15 @@ module _ (part : Portion) (handled sent : List (List (Body CellBody))) (s t : St
         all = λ q j o less. is.sends.all q j o (subst (λ (n : ℕ). 2 * j + 1 < n) (λ i. voted (after.round i) (after.cast i)) less);
         some = λ q j o e. subst (λ (n : ℕ). items_of_round (2 * j + 1) (list_at sent q) ≡ refreshes_to q (h.own j) (take n (refreshes_of part))) (sym after.done)
             (is.sends.some q j o (sym after.round ∙ e));
-        votes = is.sends.votes;
-        cast = λ v at. subst (λ (k : ℕ). IsVoteIn h k v) (sym after.round) (is.sends.cast v (sym after.cast ∙ at));
-        whole = λ j v e at. after.done ∙ (is.sends.whole j v (sym after.round ∙ e) (sym after.cast ∙ at) ∙ ap length (sym after.list));
+      };
+      voting = record {
+        votes = is.voting.votes;
+        cast = λ v at. subst (λ (k : ℕ). IsVoteIn h k v) (sym after.round) (is.voting.cast v (sym after.cast ∙ at));
       };
       ending = record {
-        ended = λ e. let was = is.ending.ended (sym after.ended ∙ e) in (was.0, after.round ∙ was.1, nothing_kept part handled more h was.0 (λ q o. votes_same was.0 q) was.2);
+        ended = λ e.
+            let was = is.ending.ended (sym after.ended ∙ e) in
+            record { pass = was.pass; round_is = after.round ∙ was.round_is; nothing = nothing_kept part handled more h was.pass (λ q o. votes_same was.pass q) was.nothing };
         going = λ j less none. is.ending.going j (omega (arith, less, after.round)) (nothing_kept part more handled h j (λ q o. sym (votes_same j q)) none);
       };
     }

@@ -17,7 +17,7 @@ use Rattle.pg_cells.specs.declared.bodies.CellBody.{CellBody}
 use Rattle.pg_cells.specs.States.{refreshes_of}
 use Rattle.pg_colour.specs.Passes.{Cells, Passes, IsClash}
 use Rattle.pg_colour.specs.Refreshed.{refreshes_to, IsRefreshTo, IsRefreshFrom, AreRefreshes, AreSound, seen_after}
-use Rattle.pg_colour.specs.LocalColour.{State, History, own_before, AreCounted, IsVoteIn, HasNothing, AreColoured, LocalColour}
+use Rattle.pg_colour.specs.LocalColour.{State, History, own_before, AreCounted, IsVoteIn, HasNothing, KeepsPasses, LocalColour}
 use Rattle.pg_colour.specs.Steps.{IsVoteOf, HasVoted, VotingKeeps, AreNothing, HasGoneOn, GoingOnKeeps, HasStopped, EndingKeeps}
 use Rattle.pg_colour.proofs.StepLists.{votes-mark, vote_before, vote_last, marks_at, marks_own, items_marks}
 use Rattle.pg_colour.proofs.PassSteps.{SeenAlike, clash_alike, pass_end}
@@ -68,6 +68,7 @@ module _ (part : Portion) (handled sent : List (List (Body CellBody))) (s t : St
     to_each = length-append_others part.rank (Mark vote) sent ∙ counts.to_each;
     alone = counts.alone;
     running = λ e q o. counts.running (sym did.ended ∙ e) q o ∙ sym did.round;
+    stopped = λ e none. none_some_vote vote t.cast none did.cast;
     closed = λ e q o. counts.closed (sym did.ended ∙ e) q o ∙ ap suc (sym did.round);
     given = λ q o. omega (arith, ap marks (joined q o), marks-mark (list_at sent q) vote, marks_were q o, votes_since);
     later = λ q k o late. items_still q k o ∙ counts.later q k o (omega (arith, late, did.round));
@@ -79,7 +80,7 @@ module _ (part : Portion) (handled sent : List (List (Body CellBody))) (s t : St
     odd = λ q i o. subst (λ (items : List CellBody). All (IsRefreshTo part q) items) (sym (items_still q (2 * i + 1) o)) (keeps.refreshes.odd q i o);
   }
 
-  module _ (is : AreColoured part handled sent h s) where
+  module _ (is : KeepsPasses part handled sent h s) where
     this_vote : IsVoteIn h s.round vote
     this_vote = record {
       pass = λ i e. (it.pass i e).1 ∙ ap length (is.present.list i e);
@@ -91,7 +92,7 @@ module _ (part : Portion) (handled sent : List (List (Body CellBody))) (s t : St
 
     vote_by : (q k : ℕ) (v : Vote) → IsOther part.rank part.ranks q → slice_get (votes_of (list_at sent q ++ Mark vote ∷ [])) k ≡ Some v → IsVoteIn h k v
     vote_by q k v o at = ⊎_elim
-        (λ before. is.sends.votes q k v o (sym (vote_before (list_at sent q) vote k before) ∙ at))
+        (λ before. is.voting.votes q k v o (sym (vote_before (list_at sent q) vote k before) ∙ at))
         (λ from.
         let within = slice_get_within (votes_of (list_at sent q ++ Mark vote ∷ [])) k v at in
         let last : k ≡ marks (list_at sent q) = omega (arith, from, within, ap length (votes-mark (list_at sent q) vote), length_push (votes_of (list_at sent q)) vote, marks_counted (list_at sent q)) in
@@ -112,12 +113,13 @@ module _ (part : Portion) (handled sent : List (List (Body CellBody))) (s t : St
         (λ apart. is.sends.all q i o (omega (arith, less, apart, votes_until)))
         (cases_eq (2 * i + 1) s.round)
 
-    voted_coloured : AreColoured part handled more h t
+    voted_coloured : KeepsPasses part handled more h t
     voted_coloured = record {
       passes = passes_kept part handled handled s.round t.round h did.round (λ n within. refl) is.passes;
       present = record {
         list = λ i e. did.list ∙ is.present.list i (sym did.round ∙ e);
         partly = voted_partly;
+        coloured_all = λ i v e at. did.done ∙ ((it.pass i (sym did.round ∙ e)).0 ∙ ap length (sym did.list));
         own = λ i p e. did.own p ∙ is.present.own i p (sym did.round ∙ e);
         seen = λ slot below. did.seen slot below ∙ (is.present.seen slot below ∙ ap (λ (n : ℕ). seen_after part handled (n + 2) slot) (sym did.round));
       };
@@ -125,13 +127,14 @@ module _ (part : Portion) (handled sent : List (List (Body CellBody))) (s t : St
         all = λ q i o less. items_still q (2 * i + 1) o ∙ voted_sent q i o (omega (arith, less, votes_since));
         some = λ q i o e.
             items_still q (2 * i + 1) o ∙ (is.sends.some q i o (sym did.round ∙ e) ∙ ap (λ (n : ℕ). refreshes_to q (h.own i) (take n (refreshes_of part))) (sym did.done));
+      };
+      voting = record {
         votes = λ q k v o at. vote_by q k v o (ap (λ (list : List (Body CellBody)). slice_get (votes_of list) k) (sym (joined q o)) ∙ at);
         cast = λ v at.
             subst (IsVoteIn h t.round) (same_Some vote v (sym did.cast ∙ at)) (subst (λ (n : ℕ). IsVoteIn h n vote) (sym did.round) this_vote);
-        whole = λ i v e at. did.done ∙ ((it.pass i (sym did.round ∙ e)).0 ∙ ap length (sym did.list));
       };
       ending = record {
-        ended = λ e. let was = is.ending.ended (sym did.ended ∙ e) in (was.0, did.round ∙ was.1, was.2);
+        ended = λ e. let was = is.ending.ended (sym did.ended ∙ e) in record { pass = was.pass; round_is = did.round ∙ was.round_is; nothing = was.nothing };
         going = λ i less none. is.ending.going i (omega (arith, less, did.round)) none;
       };
     }
@@ -195,18 +198,19 @@ module _ (part : Portion) (handled sent : List (List (Body CellBody))) (s : Stat
       to_each = keeps.counted.to_each;
       alone = marks_own part.rank votes handled ∙ keeps.counted.alone;
       running = λ e. absurd (true≢false (sym did.ended ∙ e));
+      stopped = λ e none. none_some_vote vote s.cast (sym did.cast ∙ none) cast;
       closed = λ e q o. marks_now q o ∙ ap suc (sym did.round);
       given = λ q o. keeps.counted.given q o ∙ (λ i. voted (sym did.round i) (sym did.cast i));
       later = λ q k o late. keeps.counted.later q k o (omega (arith, late, did.round));
     }
 
-    module _ (is : AreColoured part handled sent keeps.history s) where
+    module _ (is : KeepsPasses part handled sent keeps.history s) where
       end_nothing : HasNothing part ended_round keeps.history did.pass.0
       end_nothing =
           let j : ℕ = did.pass.0 in
           let even : s.round ≡ 2 * j = did.pass.1 in
           record {
-            own = no_length (keeps.history.list j) (sym ((is.sends.cast vote cast).pass j even) ∙ did.nothing part.rank vote (did.mine ∙ cast));
+            own = no_length (keeps.history.list j) (sym ((is.voting.cast vote cast).pass j even) ∙ did.nothing part.rank vote (did.mine ∙ cast));
             others = λ q v o at.
                 let w = vote_of q o in
                 let same : w.0 ≡ v = same_Some w.0 v (sym (this_round q (2 * j) w.0 o (sym even) w.1) ∙ at) in
@@ -219,12 +223,13 @@ module _ (part : Portion) (handled sent : List (List (Body CellBody))) (s : Stat
           (pass_same part (seen_after part handled (2 * i)) (seen_after part ended_round (2 * i)) (take s.done s.list) (take t.done t.list) (own_before keeps.history i) (own_before keeps.history i) s.own s.own
           (seen_same (2 * i)) (λ n. take (sym did.done n) (sym did.list n)) refl refl (is.present.partly i (sym did.round ∙ e)))
 
-      end_coloured : AreColoured part ended_round sent keeps.history t
+      end_coloured : KeepsPasses part ended_round sent keeps.history t
       end_coloured = record {
         passes = passes_kept part handled ended_round s.round t.round keeps.history did.round (λ n within. seen_same n) is.passes;
         present = record {
           list = λ i e. did.list ∙ is.present.list i (sym did.round ∙ e);
           partly = end_partly;
+          coloured_all = λ i v e at. did.done ∙ (is.present.coloured_all i v (sym did.round ∙ e) (sym did.cast ∙ at) ∙ ap length (sym did.list));
           own = λ i p e. did.own p ∙ is.present.own i p (sym did.round ∙ e);
           seen = λ slot below.
               did.seen slot below
@@ -234,12 +239,13 @@ module _ (part : Portion) (handled sent : List (List (Body CellBody))) (s : Stat
         sends = record {
           all = λ q i o less. is.sends.all q i o (subst (λ (n : ℕ). 2 * i + 1 < n) (λ n. voted (did.round n) (did.cast n)) less);
           some = λ q i o e. is.sends.some q i o (sym did.round ∙ e) ∙ ap (λ (n : ℕ). refreshes_to q (keeps.history.own i) (take n (refreshes_of part))) (sym did.done);
-          votes = is.sends.votes;
-          cast = λ v at. subst (λ (n : ℕ). IsVoteIn keeps.history n v) (sym did.round) (is.sends.cast v (sym did.cast ∙ at));
-          whole = λ i v e at. did.done ∙ (is.sends.whole i v (sym did.round ∙ e) (sym did.cast ∙ at) ∙ ap length (sym did.list));
+        };
+        voting = record {
+          votes = is.voting.votes;
+          cast = λ v at. subst (λ (n : ℕ). IsVoteIn keeps.history n v) (sym did.round) (is.voting.cast v (sym did.cast ∙ at));
         };
         ending = record {
-          ended = λ e. (did.pass.0, did.round ∙ did.pass.1, end_nothing);
+          ended = λ e. record { pass = did.pass.0; round_is = did.round ∙ did.pass.1; nothing = end_nothing };
           going = λ i less none.
               let early : 2 * i < s.round = omega (arith, less, did.round) in
               is.ending.going i early (nothing_kept part ended_round handled keeps.history i (λ q o. sym (early_vote q (2 * i) o early)) none);
@@ -287,11 +293,12 @@ module _ (part : Portion) (handled sent : List (List (Body CellBody))) (s : Stat
       alone = marks_own part.rank votes handled ∙ keeps.counted.alone;
       running = λ e q o. omega (arith, marks_now q o, did.round);
       closed = λ e. absurd (true≢false (sym e ∙ did.ended));
+      stopped = λ e. absurd (true≢false (sym e ∙ did.ended));
       given = λ q o. omega (arith, keeps.counted.given q o, voted_now, did.round, ap (voted t.round) did.cast);
       later = λ q k o late. keeps.counted.later q k o (omega (arith, late, did.round));
     }
 
-    module _ (is : AreColoured part handled sent old s) where
+    module _ (is : KeepsPasses part handled sent old s) where
       own_still : (i p : ℕ) → s.round ≡ 2 * i + 1 → s.own p ≡ own_next i p
       own_still i p odd = is.present.own i p odd ∙ ap (λ (cells : Cells). cells p) (sym (own_old i (omega (arith, odd))))
 
@@ -346,7 +353,7 @@ module _ (part : Portion) (handled sent : List (List (Body CellBody))) (s : Stat
           (λ now.
           let even : s.round ≡ 2 * i = sym now in
           let all : take s.done s.list ≡ list_next i =
-          take_all s.done s.list (omega (arith, is.sends.whole i vote even cast)) ∙ (is.present.list i even ∙ sym (list_old i (omega (arith, now)))) in
+          take_all s.done s.list (omega (arith, is.present.coloured_all i vote even cast)) ∙ (is.present.list i even ∙ sym (list_old i (omega (arith, now)))) in
           pass_same part (seen_after part handled (2 * i)) (seen_after part ended_round (2 * i)) (take s.done s.list) (list_next i) (own_before old i) (own_before history_next i) s.own (own_next i)
           (seen_same (2 * i)) all (sym (before_old i (omega (arith, now)))) (sym (own_new i now)) (is.present.partly i even))
           (λ apart.
@@ -387,7 +394,7 @@ module _ (part : Portion) (handled sent : List (List (Body CellBody))) (s : Stat
       old_vote : (q k : ℕ) (v : Vote) → IsOther part.rank part.ranks q → slice_get (votes_of (list_at sent q)) k ≡ Some v → IsVoteIn history_next k v
       old_vote q k v o at =
           let within = slice_get_within (votes_of (list_at sent q)) k v at in
-          vote_kept k v (omega (arith, within, marks_counted (list_at sent q), keeps.counted.given q o, voted_now)) (is.sends.votes q k v o at)
+          vote_kept k v (omega (arith, within, marks_counted (list_at sent q), keeps.counted.given q o, voted_now)) (is.voting.votes q k v o at)
 
       -- If no rank had a vertex to colour in this pass, all votes say so.
       all_nothing : (i : ℕ) → s.round ≡ 2 * i → HasNothing part ended_round history_next i → AreNothing votes
@@ -396,7 +403,7 @@ module _ (part : Portion) (handled sent : List (List (Body CellBody))) (s : Stat
           (λ own.
           let same : vote ≡ v = same_Some vote v (sym cast ∙ (sym did.mine ∙ (ap (slice_get votes) (sym own) ∙ at))) in
           ap (λ (x : Vote). x.a) (sym same)
-          ∙ ((is.sends.cast vote cast).pass i even ∙ (ap length (sym (list_old i (omega (arith, even)))) ∙ ap length none.own)))
+          ∙ ((is.voting.cast vote cast).pass i even ∙ (ap length (sym (list_old i (omega (arith, even)))) ∙ ap length none.own)))
           (λ apart.
           let other : IsOther part.rank part.ranks r = (omega (arith, slice_get_within votes r v at, each), apart) in
           none.others r v other (this_round r (2 * i) v other (sym even) at))
@@ -415,7 +422,7 @@ module _ (part : Portion) (handled sent : List (List (Body CellBody))) (s : Stat
           (λ apart. let early : 2 * i < s.round = omega (arith, less, apart) in is.ending.going i early (was_nothing i early none))
           (cases_eq (2 * i) s.round)
 
-      next_coloured : AreColoured part ended_round sent history_next t
+      next_coloured : KeepsPasses part ended_round sent history_next t
       unfolding history_next
       next_coloured = record {
         passes = record {
@@ -427,6 +434,7 @@ module _ (part : Portion) (handled sent : List (List (Body CellBody))) (s : Stat
         present = record {
           list = λ i e. sym (list_new i (omega (arith, e, did.round)));
           partly = next_partly;
+          coloured_all = λ i v e at. absurd (none_some_vote v t.cast did.cast at);
           own = λ i p e. did.own p ∙ ap (λ (cells : Cells). cells p) (sym (own_new i (omega (arith, e, did.round))));
           seen = next_seen;
         };
@@ -436,9 +444,10 @@ module _ (part : Portion) (handled sent : List (List (Body CellBody))) (s : Stat
               is.sends.all q i o (omega (arith, early, voted_now)) ∙ ap (λ (cells : Cells). refreshes_to q cells (refreshes_of part)) (sym (own_old i (omega (arith, early))));
           some = λ q i o e.
               keeps.counted.later q (2 * i + 1) o (omega (arith, e, did.round)) ∙ ap (λ (n : ℕ). refreshes_to q (own_next i) (take n (refreshes_of part))) (sym did.done);
+        };
+        voting = record {
           votes = old_vote;
           cast = λ v at. absurd (none_some_vote v t.cast did.cast at);
-          whole = λ i v e at. absurd (none_some_vote v t.cast did.cast at);
         };
         ending = record {
           ended = λ e. absurd (true≢false (sym e ∙ did.ended));

@@ -19,7 +19,7 @@ use Rattle.pg_cells.specs.declared.refreshes.PendingRefresh.{PendingRefresh}
 use Rattle.pg_cells.specs.States.{refreshes_of}
 use Rattle.pg_colour.specs.Passes.{Cells, IsLeastFree, with_cell, Passes}
 use Rattle.pg_colour.specs.Refreshed.{refresh_of, refreshes_to, IsRefreshTo, AreRefreshes, AreSound, seen_after}
-use Rattle.pg_colour.specs.LocalColour.{State, History, own_before, AreCounted, AreColoured, LocalColour}
+use Rattle.pg_colour.specs.LocalColour.{State, History, own_before, AreCounted, KeepsPasses, LocalColour}
 use Rattle.pg_colour.specs.Steps.{HasDone, ColouringKeeps, SendingKeeps}
 use Rattle.pg_colour.proofs.Arrived.{refreshes_yes, refreshes_no}
 use Rattle.pg_colour.proofs.StepLists.{votes-item}
@@ -48,12 +48,13 @@ module _ (part : Portion) (handled sent : List (List (Body CellBody))) (s t : St
     to_each = each;
     alone = counts.alone;
     running = λ e q o. counts.running (sym did.ended ∙ e) q o ∙ sym did.round;
+    stopped = λ e none. counts.stopped (sym did.ended ∙ e) did.uncast;
     closed = λ e q o. counts.closed (sym did.ended ∙ e) q o ∙ ap suc (sym did.round);
     given = λ q o. same q o ∙ (counts.given q o ∙ (votes_before ∙ sym votes_after));
     later = λ q k o late. let behind : s.round < k = omega (arith, late, did.round) in later q k o behind ∙ counts.later q k o behind;
   }
 
-  module _ (is : AreColoured part handled sent h s) where
+  module _ (is : KeepsPasses part handled sent h s) where
     seen_still : (slot : ℕ) → slot < length part.ghosts → t.seen slot ≡ seen_after part handled (t.round + 2) slot
     seen_still slot below = did.seen slot below ∙ (is.present.seen slot below ∙ ap (λ (n : ℕ). seen_after part handled (n + 2) slot) (sym did.round))
 
@@ -63,9 +64,9 @@ module _ (part : Portion) (handled sent : List (List (Body CellBody))) (s t : St
       running = ⊎_elim
           (λ over.
           let last = is.ending.ended over in
-          let i : ℕ = last.0 in
-          let same : j ≡ i = omega (arith, even, last.1) in
-          let none : s.list ≡ [] = is.present.list j even ∙ (ap h.list same ∙ last.2.own) in
+          let i : ℕ = last.pass in
+          let same : j ≡ i = omega (arith, even, last.round_is) in
+          let none : s.list ≡ [] = is.present.list j even ∙ (ap h.list same ∙ last.nothing.own) in
           absurd (none-some place (sym (ap (λ (list : List ℕ). slice_get list s.done) none) ∙ next)))
           (λ e. e)
           (cases_Bool s.ended)
@@ -85,7 +86,7 @@ module _ (part : Portion) (handled sent : List (List (Body CellBody))) (s t : St
           (pass_more part (seen_after part handled (2 * j)) (take s.done s.list) (own_before h j) s.own t.own place c (is.present.partly j even)
           (free_alike part s.own s.seen (seen_after part handled (2 * j)) place c alike least) own)
 
-      coloured : AreColoured part handled sent h t
+      coloured : KeepsPasses part handled sent h t
       coloured = record {
         passes = passes_kept part handled handled s.round t.round h did.round (λ n within. refl) is.passes;
         present = record {
@@ -93,18 +94,20 @@ module _ (part : Portion) (handled sent : List (List (Body CellBody))) (s t : St
           partly = λ i e.
               let same : j ≡ i = omega (arith, even, e, did.round) in
               subst (λ (n : ℕ). Passes part (seen_after part handled (2 * n)) (take t.done t.list) (own_before h n) t.own) same further;
+          coloured_all = λ i v e at. absurd (none_some_vote v t.cast did.cast at);
           own = λ i p e. absurd (omega (arith, even, e, did.round));
           seen = seen_still;
         };
         sends = record {
           all = λ q i o less. is.sends.all q i o (omega (arith, less, votes_before, votes_after));
           some = λ q i o e. absurd (omega (arith, even, e, did.round));
-          votes = is.sends.votes;
+        };
+        voting = record {
+          votes = is.voting.votes;
           cast = λ v at. absurd (none_some_vote v t.cast did.cast at);
-          whole = λ i v e at. absurd (none_some_vote v t.cast did.cast at);
         };
         ending = record {
-          ended = λ e. let was = is.ending.ended (sym did.ended ∙ e) in (was.0, did.round ∙ was.1, was.2);
+          ended = λ e. let was = is.ending.ended (sym did.ended ∙ e) in record { pass = was.pass; round_is = did.round ∙ was.round_is; nothing = was.nothing };
           going = λ i less none. is.ending.going i (omega (arith, less, did.round)) none;
         };
       }
@@ -177,7 +180,7 @@ module _ (part : Portion) (handled sent : List (List (Body CellBody))) (s t : St
         (cases_eq (2 * i + 1) s.round);
   }
 
-  module _ (is : AreColoured part handled sent keeps.history s) where
+  module _ (is : KeepsPasses part handled sent keeps.history s) where
     entry_more : take t.done (refreshes_of part) ≡ take s.done (refreshes_of part) ++ pending ∷ []
     entry_more =
         ap (λ (n : ℕ). take n (refreshes_of part)) did.done
@@ -209,12 +212,13 @@ module _ (part : Portion) (handled sent : List (List (Body CellBody))) (s t : St
         ∙ sym (split q)))))
         (cases_eq q to)
 
-    sent_coloured : AreColoured part handled more keeps.history t
+    sent_coloured : KeepsPasses part handled more keeps.history t
     sent_coloured = record {
       passes = passes_kept part handled handled s.round t.round keeps.history did.round (λ n within. refl) is.passes;
       present = record {
         list = λ i e. absurd (omega (arith, odd, e, did.round));
         partly = λ i e. absurd (omega (arith, odd, e, did.round));
+        coloured_all = λ i v e at. absurd (none_some_vote v t.cast did.cast at);
         own = λ i p e. own p ∙ is.present.own i p (sym did.round ∙ e);
         seen = seen_still part handled sent s t did keeps is;
       };
@@ -225,12 +229,13 @@ module _ (part : Portion) (handled sent : List (List (Body CellBody))) (s t : St
         some = λ q i o e.
             let same : j ≡ i = omega (arith, odd, e, did.round) in
             subst (λ (n : ℕ). items_of_round (2 * n + 1) (list_at more q) ≡ refreshes_to q (keeps.history.own n) (take t.done (refreshes_of part))) same (sent_so_far q o);
-        votes = λ q k v o at. is.sends.votes q k v o (ap (λ (votes : List Vote). slice_get votes k) (sym (votes_kept q)) ∙ at);
+      };
+      voting = record {
+        votes = λ q k v o at. is.voting.votes q k v o (ap (λ (votes : List Vote). slice_get votes k) (sym (votes_kept q)) ∙ at);
         cast = λ v at. absurd (none_some_vote v t.cast did.cast at);
-        whole = λ i v e at. absurd (none_some_vote v t.cast did.cast at);
       };
       ending = record {
-        ended = λ e. let was = is.ending.ended (sym did.ended ∙ e) in (was.0, did.round ∙ was.1, was.2);
+        ended = λ e. let was = is.ending.ended (sym did.ended ∙ e) in record { pass = was.pass; round_is = did.round ∙ was.round_is; nothing = was.nothing };
         going = λ i less none. is.ending.going i (omega (arith, less, did.round)) none;
       };
     }
