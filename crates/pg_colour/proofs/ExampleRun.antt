@@ -3,7 +3,7 @@ use Rattle.std.proofs.Common.{◌≡◌, ◌≢◌, ◌⊎◌, ◌↔◌, ◌==�
 use Rattle.std.proofs.lemmas.Bool.{cases_eq, eq-eqb, cond-true, true≢false}
 use Rattle.std.proofs.lemmas.Option.{none-some, same_Some, slice_get_within}
 use Rattle.std.proofs.lemmas.List.Elements.{All-nil, All-cons}
-use Rattle.pg_base.proofs.Members.{contains_first, contains_cases}
+use Rattle.pg_base.proofs.Members.{contains_first}
 use Rattle.pg_group.specs.declared.messages.Body.{Body}
 use Rattle.pg_group.specs.declared.messages.Vote.{Vote}
 use Rattle.pg_group.specs.Book.{IsMarked}
@@ -18,17 +18,14 @@ use Rattle.pg_cells.specs.declared.refreshes.PendingRefresh.{PendingRefresh}
 use Rattle.pg_cells.specs.States.{refreshes_of}
 use Rattle.pg_cells.specs.Example.{one_each, pair, part_of, parts}
 use Rattle.pg_cells.proofs.Example.{sharing_laws, divided}
-use Rattle.pg_proper.proofs.ExampleRun.{is_graph}
+use Rattle.pg_proper.proofs.ExampleRun.{is_graph, only}
 use Rattle.pg_colour.specs.declared.TheConstants.{NO_COLOUR}
 use Rattle.pg_colour.specs.Passes.{Cells, no_colours, with_cell, row, IsTaken, IsLeastFree, IsClash, Passes}
 use Rattle.pg_colour.specs.Refreshed.{refresh_of, refreshes_to, IsRefreshTo, AreRefreshes, values_for, last_or, seen_after}
 use Rattle.pg_colour.specs.LocalColour.{History, own_before, AreCounted, ArePasses, IsPresent, IsVoteIn, AreSent, AreVotes, HasNothing, LocalColour}
 use Rattle.pg_colour.specs.Whole.{HasEndedOver, IsWholeRun}
-use Rattle.pg_colour.specs.Example.{vote, lane, lists, state}
+use Rattle.pg_colour.specs.Example.{vote, lane_of, lists, state}
 use Rattle.pg_colour.proofs.PassesOver.{cell_at, cell_else}
-
-only : {X : Type 0} (x v : X) → Contains (x ∷ []) v → x ≡ v
-only x v among = ⊎_elim (λ same. same) (λ later. absurd (omega (arith, later.1))) (contains_cases x [] v among)
 
 -- The place that the rank colours again, if it does.
 again : ℕ → List ℕ
@@ -61,7 +58,7 @@ own_of r (suc j) = with_cell no_colours 0 r
 abbrev history : ℕ → History
 history r = record { list = list_of r; own = own_of r }
 
-past : (a k : ℕ) → 5 ≤ k → items_of_round k (lane a) ≡ []
+past : (a k : ℕ) → 5 ≤ k → items_of_round k (lane_of a) ≡ []
 past a zero h = absurd (omega arith)
 past a (suc zero) h = absurd (omega arith)
 past a (suc (suc zero)) h = absurd (omega arith)
@@ -69,26 +66,26 @@ past a (suc (suc (suc zero))) h = absurd (omega arith)
 past a (suc (suc (suc (suc zero)))) h = absurd (omega arith)
 past a (suc (suc (suc (suc (suc k))))) h = refl
 
-evens : (a j : ℕ) → items_of_round (2 * j) (lane a) ≡ []
+evens : (a j : ℕ) → items_of_round (2 * j) (lane_of a) ≡ []
 evens a zero = refl
 evens a (suc zero) = refl
 evens a (suc (suc zero)) = refl
 evens a (suc (suc (suc j))) = past a (2 * suc (suc (suc j))) (omega arith)
 
--- What a lane leaves in slot 0 in the first rounds.
+-- What a lane_of leaves in slot 0 in the first rounds.
 left : List (Body CellBody) → ℕ → ℕ
 left list zero = NO_COLOUR
 left list (suc k) = last_or (left list k) (values_for 0 (items_of_round k list))
 
-left_2 : (a : ℕ) → left (lane a) 2 ≡ 0
+left_2 : (a : ℕ) → left (lane_of a) 2 ≡ 0
 unfolding left
 left_2 a = refl
 
-left_4 : (a : ℕ) → left (lane a) 4 ≡ a
+left_4 : (a : ℕ) → left (lane_of a) 4 ≡ a
 unfolding left
 left_4 a = refl
 
-left_6 : (a : ℕ) → left (lane a) 6 ≡ a
+left_6 : (a : ℕ) → left (lane_of a) 6 ≡ a
 unfolding left
 left_6 a = refl
 
@@ -107,7 +104,7 @@ vote_in r k a pass refresh = record { pass = pass; refresh = refresh; b = refl; 
 count_at : (r i j : ℕ) → i ≡ j → length (list_of r i) ≡ length (list_of r j)
 count_at r i j same = ap (λ (n : ℕ). length (list_of r n)) same
 
-vote_at : (r k : ℕ) (v : Vote) → r < 2 → slice_get (votes_of (lane r)) k ≡ Some v → IsVoteIn (history r) k v
+vote_at : (r k : ℕ) (v : Vote) → r < 2 → slice_get (votes_of (lane_of r)) k ≡ Some v → IsVoteIn (history r) k v
 unfolding list_of
 vote_at r zero v h at = subst (IsVoteIn (history r) 0) (same_Some (vote 1) v at) (vote_in r 0 1 (λ j e. count_at r 0 j (omega (arith, e))) (λ j e. absurd (omega (arith, e))))
 vote_at r (suc zero) v h at = subst (IsVoteIn (history r) 1) (same_Some (vote 1) v at) (vote_in r 1 1 (λ j e. absurd (omega (arith, e))) (λ j e. refl))
@@ -117,7 +114,7 @@ vote_at r (suc (suc (suc (suc zero)))) v h at = subst (IsVoteIn (history r) 4) (
 vote_at r (suc (suc (suc (suc (suc k))))) v h at = absurd (none-some v at)
 
 module _ (r o : ℕ) (apart : r ≢ o) (small : r < 2) (near : o < 2) (handled promised : List (List (Body CellBody)))
-    (from : list_at handled o ≡ lane o) (to : list_at promised o ≡ lane r) (alone : list_at handled r ≡ []) (each : length handled ≡ 2) (each_sent : length promised ≡ 2) where
+    (from : list_at handled o ≡ lane_of o) (to : list_at promised o ≡ lane_of r) (alone : list_at handled r ≡ []) (each : length handled ≡ 2) (each_sent : length promised ≡ 2) where
   abbrev p : Portion
   p = part_of r (suc r) o (suc o)
 
@@ -130,16 +127,16 @@ module _ (r o : ℕ) (apart : r ≢ o) (small : r < 2) (near : o < 2) (handled p
   other_is : (q : ℕ) → IsOther r 2 q → q ≡ o
   other_is q other = ⊎_elim (λ same. same) (λ else. absurd (other.1 (omega (arith, other.0, small, near, apart, else)))) (cases_eq q o)
 
-  taken_from : (q : ℕ) → IsOther r 2 q → list_at handled q ≡ lane o
+  taken_from : (q : ℕ) → IsOther r 2 q → list_at handled q ≡ lane_of o
   taken_from q other = ap (list_at handled) (other_is q other) ∙ from
 
-  sent_to : (q : ℕ) → IsOther r 2 q → list_at promised q ≡ lane r
+  sent_to : (q : ℕ) → IsOther r 2 q → list_at promised q ≡ lane_of r
   sent_to q other = ap (list_at promised) (other_is q other) ∙ to
 
   is_refresh : (q v : ℕ) → q ≡ o → IsRefreshTo p q (Refresh 0 v)
   is_refresh q v same = record { pending = the_refresh; value = v; among = contains_first the_refresh []; rank = sym same; is = refl }
 
-  refreshes_sent : (q j : ℕ) → q ≡ o → All (IsRefreshTo p q) (items_of_round (2 * j + 1) (lane r))
+  refreshes_sent : (q j : ℕ) → q ≡ o → All (IsRefreshTo p q) (items_of_round (2 * j + 1) (lane_of r))
   refreshes_sent q zero same = All-cons (IsRefreshTo p q) (Refresh 0 0) [] (is_refresh q 0 same) (All-nil (IsRefreshTo p q))
   refreshes_sent q (suc zero) same = All-cons (IsRefreshTo p q) (Refresh 0 r) [] (is_refresh q r same) (All-nil (IsRefreshTo p q))
   refreshes_sent q (suc (suc j)) same =
@@ -165,12 +162,12 @@ module _ (r o : ℕ) (apart : r ≢ o) (small : r < 2) (near : o < 2) (handled p
   }
 
   -- What the only ghost is seen with.
-  seen_left : (k : ℕ) → seen_after p handled k 0 ≡ left (lane o) k
+  seen_left : (k : ℕ) → seen_after p handled k 0 ≡ left (lane_of o) k
   unfolding left
   seen_left zero = refl
   seen_left (suc k) =
       ap (λ (list : List (Body CellBody)). last_or (seen_after p handled k 0) (values_for 0 (items_of_round k list))) from
-      ∙ ap (λ (x : ℕ). last_or x (values_for 0 (items_of_round k (lane o)))) (seen_left k)
+      ∙ ap (λ (x : ℕ). last_or x (values_for 0 (items_of_round k (lane_of o)))) (seen_left k)
 
   arc_is : (place : ℕ) (a : Arc) → place < 1 → Contains (row p place) a → the_arc ≡ a
   arc_is zero a h c = only the_arc a c
@@ -322,7 +319,7 @@ module _ (r o : ℕ) (apart : r ≢ o) (small : r < 2) (near : o < 2) (handled p
   refreshes_are : (own : Cells) → refreshes_to o own (refreshes_of p) ≡ Refresh 0 (own 0) ∷ []
   refreshes_are own = ap (map (refresh_of own)) (cond-true (o == o) (the_refresh ∷ []) [] (eq-eqb o o refl))
 
-  round_sent : (j : ℕ) → 2 * j + 1 < 5 → items_of_round (2 * j + 1) (lane r) ≡ Refresh 0 (own_of r j 0) ∷ []
+  round_sent : (j : ℕ) → 2 * j + 1 < 5 → items_of_round (2 * j + 1) (lane_of r) ≡ Refresh 0 (own_of r j 0) ∷ []
   unfolding own_of
   round_sent zero h = refl
   round_sent (suc zero) h = refl
@@ -379,7 +376,7 @@ module _ (r o : ℕ) (apart : r ≢ o) (small : r < 2) (near : o < 2) (handled p
     promised = promised;
     ended = refl;
     keeps = keeps;
-    handled_is = λ q other. taken_from q other ∙ ap lane (sym (other_is q other));
+    handled_is = λ q other. taken_from q other ∙ ap lane_of (sym (other_is q other));
     sent_is = λ q other. sent_to q other;
   }
 
@@ -389,10 +386,10 @@ zero_one e = omega (arith, e)
 kept : (r : ℕ) (p : Portion) → slice_get parts r ≡ Some p → HasEndedOver 2 r lists lists p (state r)
 kept zero p at =
     subst (λ (q : Portion). HasEndedOver 2 0 lists lists q (state 0)) (same_Some (part_of 0 1 1 2) p at)
-    (over 0 1 zero_one (omega arith) (omega arith) ([] ∷ lane 1 ∷ []) ([] ∷ lane 0 ∷ []) refl refl refl refl refl)
+    (over 0 1 zero_one (omega arith) (omega arith) ([] ∷ lane_of 1 ∷ []) ([] ∷ lane_of 0 ∷ []) refl refl refl refl refl)
 kept (suc zero) p at =
     subst (λ (q : Portion). HasEndedOver 2 1 lists lists q (state 1)) (same_Some (part_of 1 2 0 1) p at)
-    (over 1 0 (λ e. zero_one (sym e)) (omega arith) (omega arith) (lane 0 ∷ [] ∷ []) (lane 1 ∷ [] ∷ []) refl refl refl refl refl)
+    (over 1 0 (λ e. zero_one (sym e)) (omega arith) (omega arith) (lane_of 0 ∷ [] ∷ []) (lane_of 1 ∷ [] ∷ []) refl refl refl refl refl)
 kept (suc (suc r)) p at = absurd (none-some p at)
 
 marked : IsMarked 2 lists

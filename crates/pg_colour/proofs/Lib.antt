@@ -13,3 +13,4 @@ pub mod StepHandling
 pub mod StepWorking
 pub mod StepRounds
 pub mod Stepping
+pub mod LoneRun

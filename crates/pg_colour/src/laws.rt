@@ -1,7 +1,8 @@
 //! The laws of this crate's definitions. No call does anything: each is proved to meet the laws that its clauses state.
 
+ghost use Rattle.std.specs.Prelude.{[], ◌∷◌};
 ghost use Rattle.pg_cells.specs.Example.{one_each, pair, parts};
-ghost use Rattle.pg_colour.specs.Example.{lists, state};
+ghost use Rattle.pg_colour.specs.Example.{lists, lone, lone_part, lone_state, no_lists, state};
 ghost use Rattle.pg_colour.specs.Steps.{OpeningKeeps, HandlingKeeps, ColouringKeeps, SendingKeeps, VotingKeeps, GoingOnKeeps, EndingKeeps};
 ghost use Rattle.pg_colour.specs.Whole.{IsWholeRun, WholeEndsTogether, WholeIsSound, WholeIsFresh, WholeSeesOwners, WholeIsRun, WholeIsColoured, WholeIsProper, OneRankIsFirstFit};
 
@@ -36,4 +37,9 @@ pub fn steps()
 /// A run of two ranks, in which a vertex is coloured twice, meets every premise.
 pub fn example_run()
     ensures { IsWholeRun one_each pair parts state lists lists }
+{}
+
+/// A run of one rank, which colours both ends of an edge in one pass, meets every premise too.
+pub fn lone_example_run()
+    ensures { IsWholeRun lone pair (lone_part ∷ []) (λ r. lone_state) no_lists no_lists }
 {}
