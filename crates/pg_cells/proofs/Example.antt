@@ -7,7 +7,7 @@ use Rattle.std.specs.Prelude.{max, slice_set}
 use Rattle.pg_dist.specs.Sharing.{IsSharing}
 use Rattle.pg_adj.specs.declared.arcs.Ghost.{Ghost}
 use Rattle.pg_adj.specs.Portions.{Portion}
-use Rattle.pg_adj.specs.Division.{AreRows, IsPartOf}
+use Rattle.pg_adj.specs.Division.{AreRows, IsPartOf, Divided}
 use Rattle.pg_base.specs.Keyed.{row_of}
 use Rattle.pg_cells.specs.declared.bodies.CellBody.TheVariants.{Put as PutBody, Refresh}
 use Rattle.pg_cells.specs.declared.phases.Phase.TheVariants.{Closing, Refreshing}
@@ -27,7 +27,7 @@ both P zeroth one zero less = zeroth
 both P zeroth one (suc zero) less = one
 both P zeroth one (suc (suc r)) less = absurd (omega arith)
 
-sharing_laws : IsSharing one_each
+pub sharing_laws : IsSharing one_each
 sharing_laws = record {
   n_within = omega arith;
   owner_is_rank = λ v low high. omega arith;
@@ -80,8 +80,11 @@ part_is zero d less = first_is
 part_is (suc zero) d less = second_is
 part_is (suc (suc r)) d less = absurd (omega arith)
 
+pub divided : Divided one_each pair parts
+divided = record { count = refl; part = part_is }
+
 pub of_one_division : AreOfOneDivision parts
-of_one_division = (one_each, pair, sharing_laws, record { count = refl; part = part_is })
+of_one_division = (one_each, pair, sharing_laws, divided)
 
 -- One item of a list.
 one_is : {X : Type 0} (P : X → Type 0) (x : X) → P x → All P (x ∷ [])

@@ -17,4 +17,4 @@ mod RefreshLists
 mod Padded
 pub mod NextSends
 mod Synchronizes
-mod Example
+pub mod Example

@@ -10,3 +10,4 @@ pub mod Beside
 pub mod Clashes
 pub mod Items
 pub mod Shown
+pub mod Example

@@ -1,7 +1,7 @@
 -- A pass of one rank: it goes through a list of its own places and gives each the least colour that no neighbour has then. A cell
--- holds a colour, or NO_COLOUR.
--- Source: Boman, Bozdağ, Catalyurek, Gebremedhin and Manne, A scalable parallel graph coloring algorithm for distributed
--- memory computers (Euro-Par 2005).
+-- holds a colour, or NO_COLOUR. These are pg_proper's passes, over a part's places and slots in place of vertices.
+-- Source: after Boman, Bozdağ, Catalyurek, Gebremedhin and Manne, A scalable parallel graph coloring algorithm for distributed
+-- memory computers (Euro-Par 2005). That of two ends of one colour the greater one is coloured again is this project's choice.
 use Rattle.std.specs.Prelude.{◌≡◌, ◌⊎◌, ◌==◌, cond, ℕ, ◌<◌, List, [], ◌∷◌, slice_index, Contains}
 use Rattle.pg_base.specs.Keyed.{row_of}
 use Rattle.pg_adj.specs.declared.arcs.Arc.{Arc}
@@ -31,7 +31,7 @@ pub record IsTaken (part : Portion) (own seen : Cells) (place d : ℕ) : Type 0 
   pub among : Contains (row part place) arc
   pub ends : EndsAt part own seen arc d
 
--- c is the least colour that no neighbour of the vertex at a place has.
+-- c is a colour, and the least that no neighbour of the vertex at a place has.
 pub record IsLeastFree (part : Portion) (own seen : Cells) (place c : ℕ) : Type 0 where
   pub colour : c < NO_COLOUR
   pub free : IsTaken part own seen place c → ⊥
@@ -47,7 +47,7 @@ Passes part seen [] before after = (place : ℕ) → after place ≡ before plac
 Passes part seen (place ∷ list) before after =
     (c : ℕ) × IsLeastFree part before seen place c × Passes part seen list (with_cell before place c) after
 
--- The vertex at a place has a lesser neighbour of another rank that is seen with the same colour.
+-- The vertex at a place has a lesser neighbour of another rank that is seen with the same colour. The lesser end keeps its colour.
 pub record IsClash (part : Portion) (own seen : Cells) (place : ℕ) : Type 0 where
   pub arc : Arc
   pub slot : ℕ

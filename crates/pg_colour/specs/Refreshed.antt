@@ -1,7 +1,7 @@
 -- What ranks tell each other in the odd rounds: each own cell goes to every holder of its vertex.
 -- Source: ghost cells after Gregor and Lumsdaine, Lifting Sequential Graph Algorithms for Distributed-Memory Parallel
 -- Computation (OOPSLA 2005).
-use Rattle.std.specs.Prelude.{◌≡◌, ◌==◌, cond, ℕ, zero, suc, ◌+◌, ◌*◌, ◌<◌, List, [], ◌∷◌, Some, map, filter, slice_get, slice_index_or, All, Contains}
+use Rattle.std.specs.Prelude.{◌≡◌, ◌==◌, cond, ℕ, zero, suc, ◌+◌, ◌*◌, List, [], ◌∷◌, Some, map, filter, slice_get, slice_index_or, All, Contains}
 use Rattle.pg_group.specs.declared.messages.Body.{Body}
 use Rattle.pg_group.specs.Ranked.{IsOther, list_at}
 use Rattle.pg_group.specs.Rounds.{items_of_round}
@@ -59,11 +59,11 @@ abbrev pub last_or : ℕ → List ℕ → ℕ
 last_or was [] = was
 last_or was (value ∷ values) = last_or value values
 
--- The rank to which the vertex of a slot belongs.
+-- The rank to which the vertex of a slot belongs; 0 where there is no such slot.
 abbrev pub home_of : Portion → ℕ → ℕ
 home_of part slot = (slice_index_or part.ghosts slot (record { vertex = record { 0 = 0 }; home = record { 0 = 0 }; place = 0 })).home.0
 
--- What the messages from their homes left in the ghosts in the first rounds. No colour is seen at first.
+-- What the messages from their homes left in the ghosts in the first k rounds. No colour is seen at first.
 abbrev pub seen_after : Portion → List (List (Body CellBody)) → ℕ → Cells
 seen_after part handled zero = no_colours
 seen_after part handled (suc k) = λ slot. last_or (seen_after part handled k slot) (values_for slot (items_of_round k (list_at handled (home_of part slot))))

@@ -1,4 +1,6 @@
--- By which steps a rank keeps its promise while it runs.
+-- By which steps a rank keeps its promise while it runs: what it shows before and after each.
+-- Source: after Boman, Bozdağ, Catalyurek, Gebremedhin and Manne, A scalable parallel graph coloring algorithm for distributed
+-- memory computers (Euro-Par 2005).
 use Rattle.std.specs.Prelude.{◌≡◌, ◌↔◌, ℕ, ◌+◌, ◌*◌, ◌<◌, true, false, Some, None, List, [], ◌∷◌, length, slice_get, AllPairs, Contains}
 use Rattle.std.specs.List.{range_with_len}
 use Rattle.pg_group.specs.declared.messages.Body.{Body}
