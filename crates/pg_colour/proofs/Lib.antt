@@ -21,3 +21,5 @@ pub mod StepWorking
 pub mod StepRounds
 pub mod Stepping
 pub mod LoneRun
+pub mod HandleLemmas
+pub mod KeepLemmas

@@ -1,8 +1,8 @@
 -- What a colouring knows once it has sent a refresh, or has none left to send.
 use Rattle.std.proofs.Common.{◌≡◌, ◌≢◌, ◌<◌, ◌≤◌, ◌∙◌, ◌+◌, ◌^◌, ℕ, Bool, true, false, List, Option, Some, None, All, length, slice_get, refl, sym, ap, subst, arith}
-use Rattle.std.proofs.lemmas.Option.{slice_get_within}
+use Rattle.std.proofs.lemmas.Option.{get_or_from_slice_get, slice_get_within}
 use Rattle.std.specs.Vec.{vec_len}
-use Rattle.pg_adj.specs.Portions.{Portion}
+use Rattle.pg_adj.specs.Portions.{IsForeign, Portion}
 use Rattle.pg_cells.specs.declared.bodies.CellBody.{CellBody}
 use Rattle.pg_cells.specs.declared.bodies.CellBody.TheVariants.{Refresh}
 use Rattle.pg_cells.specs.declared.cells.Cells.{Cells}
@@ -17,7 +17,7 @@ use Rattle.pg_group.specs.declared.messages.Body.{Body}
 use Rattle.pg_group.specs.declared.messages.Body.TheVariants.{Item}
 use Rattle.pg_group.specs.declared.programs.Worked.{Worked}
 use Rattle.pg_group.specs.declared.programs.Worked.TheVariants.{More}
-use Rattle.pg_group.specs.Ranked.{append_at}
+use Rattle.pg_group.specs.Ranked.{IsOther, append_at}
 use Rattle.pg_group.specs.Supersteps.{OnMore}
 use Rattle.pg_colour.specs.declared.colouring.Colouring.{Colouring}
 use Rattle.pg_colour.specs.Items.{RefreshesOne, items_in, phase_in}
@@ -92,6 +92,11 @@ module _ (c : Colouring) (refresh : phase_in (count_of c.rounds) ≡ Refreshing)
         let pending : PendingRefresh = is_sent.pending in
         let at = subst (λ (p : Portion). slice_get (refreshes_of p) c.next ≡ Some pending) c.same_part is_sent.at in
         let entries : c.cells.refreshes.entries.items ≡ refreshes_of c.part = c.cells.entries ∙ ap (λ (p : Portion). refreshes_of p) c.same_part in
+        let away : IsForeign c.part pending.holder.rank.0 =
+          subst (λ (p : Portion). IsForeign p pending.holder.rank.0) c.same_part
+          (subst (λ (d : PendingRefresh). IsForeign c.cells.part.value d.holder.rank.0) (get_or_from_slice_get (refreshes_of c.part) c.next pending pending at)
+          (subst (λ (ds : List PendingRefresh). All (λ p. IsForeign c.cells.part.value p.holder.rank.0) ds) entries c.cells.holders c.next pending (slice_get_within (refreshes_of c.part) c.next pending at))) in
+        let foreign : IsOther c.part.rank c.part.ranks pending.holder.rank.0 = (away.below, away.other) in
         let value = own_of_pending (cells_of c.cells).own (refreshes_of c.part) c.next pending
           (subst (λ (ds : List PendingRefresh). All (λ p. p.place < length (cells_of c.cells).own) ds) entries c.cells.pending_places) at in
         let is : body ≡ refresh_of (state_of c).own pending = is_sent.is ∙ ap (λ (x : ℕ). Refresh pending.holder.slot x) value in
@@ -99,6 +104,7 @@ module _ (c : Colouring) (refresh : phase_in (count_of c.rounds) ≡ Refreshing)
           refresh = refresh;
           pending = pending;
           next = at;
+          other = foreign;
           sends = grew ∙ (ap (λ (r : ℕ). append_at sent r (Item body)) is_sent.rank ∙ ap (λ (b : CellBody). append_at sent pending.holder.rank.0 (Item b)) is);
           own = λ k. ap (λ (f : ℕ → ℕ). f k) own ∙ ap (λ (s : CellState). at_places s.own k) is_sent.after;
           seen = λ slot. ap (λ (f : ℕ → ℕ). f slot) seen ∙ ap (λ (s : CellState). at_slots s.ghosts slot) is_sent.after;

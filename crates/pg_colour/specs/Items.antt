@@ -5,7 +5,7 @@ use Rattle.std.specs.Prelude.{◌≡◌, ◌⊎◌, ℕ, zero, suc, ◌+◌, ◌
 use Rattle.pg_group.specs.declared.messages.Body.{Body}
 use Rattle.pg_group.specs.declared.messages.Body.TheVariants.{Item}
 use Rattle.pg_group.specs.declared.messages.Vote.{Vote}
-use Rattle.pg_group.specs.Ranked.{append_at}
+use Rattle.pg_group.specs.Ranked.{IsOther, append_at}
 use Rattle.pg_adj.specs.Portions.{Portion}
 use Rattle.pg_cells.specs.declared.bodies.CellBody.{CellBody}
 use Rattle.pg_cells.specs.declared.phases.Phase.{Phase}
@@ -55,6 +55,7 @@ pub record RefreshesOne (part : Portion) (s t : State) (sent more : List (List (
   pub refresh : phase_in s.round ≡ Refreshing
   pub pending : PendingRefresh
   pub next : slice_get (refreshes_of part) s.done ≡ Some pending
+  pub other : IsOther part.rank part.ranks pending.holder.rank.0
   pub sends : more ≡ append_at sent pending.holder.rank.0 (Item (refresh_of s.own pending))
   pub own : (k : ℕ) → t.own k ≡ s.own k
   pub seen : (slot : ℕ) → t.seen slot ≡ s.seen slot

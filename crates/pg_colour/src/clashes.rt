@@ -8,7 +8,7 @@ ghost use Rattle.pg_colour.specs.Clashes.{IsClashOver};
 ghost use Rattle.pg_colour.specs.Passes.{IsClash};
 ghost use Rattle.pg_colour.specs.Seen.{at_places, at_slots};
 
-use crate::neighbours::seen;
+use crate::fitting::seen;
 use pg_adj::{Arc, Part};
 use pg_cells::{Cells, LastWins};
 

@@ -4,8 +4,8 @@
 
 mod clashes;
 mod colouring;
+mod fitting;
 pub mod laws;
-mod neighbours;
 mod opening;
 mod palettes;
 mod programs;

@@ -74,13 +74,8 @@ impl Program for Colouring {
     }
 
     fn vote(&mut self) -> Vote {
-        let a = if self.refreshes() {
-            1
-        } else {
-            self.list.len() as u64
-        };
         let vote = Vote {
-            a,
+            a: self.amount(),
             b: 0,
             c: 0,
             d: 0,
@@ -90,6 +85,7 @@ impl Program for Colouring {
     }
 
     fn round_end(&mut self, votes: &[Vote]) -> Next {
+        let _rank = self.part.rank();
         if self.refreshes() {
             self.begin_pass();
             return Next::Again;

@@ -1,5 +1,5 @@
 //! The items of a round, one by one, and what stands between rounds.
-ghost use Rattle.std.specs.Prelude.{◌≡◌, ◌↔◌, ◌+◌, true, false, None};
+ghost use Rattle.std.specs.Prelude.{◌≡◌, ◌↔◌, ◌+◌, true, false, None, length};
 ghost use Rattle.pg_cells.specs.declared.phases.Phase.TheVariants.{Filling, Refreshing};
 ghost use Rattle.pg_group.specs.Ranked.{IsOther};
 ghost use Rattle.pg_group.specs.Supersteps.{AreUnmarked, OnBlocked, OnIdle, OnMore, SentAtMostOne};
@@ -10,7 +10,7 @@ ghost use Rattle.pg_colour.specs.Steps.{AreClashes};
 
 use crate::Colouring;
 use crate::clashes::list_clashes;
-use crate::neighbours::least_free;
+use crate::fitting::least_free;
 use pg_cells::{CellBody, Phase};
 use pg_group::{Outbox, Worked};
 
@@ -24,6 +24,17 @@ impl Colouring {
             Phase::Refreshing => true,
             _ => false,
         }
+    }
+
+    // What the vote of this round says: how many vertices the pass has, or 1.
+    pub(crate) fn amount(&self) -> u64
+        ensures pass { phase_in (count_of self.now.rounds) ≡ Filling → result ≡ length self.now.list.items }
+        ensures refresh { phase_in (count_of self.now.rounds) ≡ Refreshing → result ≡ 1 }
+    {
+        if self.refreshes() {
+            return 1;
+        }
+        self.list.len() as u64
     }
 
     // Colours the next vertex of the list, if one is left. Answers whether there was one.

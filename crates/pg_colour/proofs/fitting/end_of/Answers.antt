@@ -5,7 +5,7 @@ use Rattle.pg_cells.specs.Shown.{state_of}
 use Rattle.pg_cells.specs.States.{IsGhost}
 use Rattle.pg_colour.specs.Seen.{at_places, at_slots}
 use Rattle.pg_colour.proofs.TakenLemmas.{ends_slot}
-use Rattle.pg_colour.proofs.neighbours.end_of.Goals as goal
+use Rattle.pg_colour.proofs.fitting.end_of.Goals as goal
 
 pub returns-in-Some : goal.returns-in-Some
 returns-in-Some c = λ d real.

@@ -2,7 +2,7 @@ use Rattle.std.proofs.Common.{◌≡◌, length}
 use Rattle.pg_cells.specs.Shown.{state_of}
 use Rattle.pg_colour.specs.Seen.{at_places, at_slots}
 use Rattle.pg_colour.proofs.TakenLemmas.{AreMarked}
-use Rattle.pg_colour.proofs.neighbours.take_neighbours.Given as goal
+use Rattle.pg_colour.proofs.fitting.take_neighbours.Given as goal
 
 abbrev pub invariant-loop-k : goal.invariant-loop-k
 invariant-loop-k l = record {

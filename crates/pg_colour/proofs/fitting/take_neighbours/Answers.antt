@@ -8,7 +8,7 @@ use Rattle.pg_colour.specs.Seen.{at_places, at_slots}
 use Rattle.std.specs.Prelude.{slice_get}
 use Rattle.pg_colour.proofs.OpeningLemmas.{few_arcs}
 use Rattle.pg_colour.proofs.TakenLemmas.{all_marked, one_marked, slot_here, taken_by_few}
-use Rattle.pg_colour.proofs.neighbours.take_neighbours.Goals as goal
+use Rattle.pg_colour.proofs.fitting.take_neighbours.Goals as goal
 
 abbrev some_arc : Arc
 some_arc = record { to = record { 0 = 0 }; home = record { 0 = 0 }; place = 0; w = 0; edge = 0 }

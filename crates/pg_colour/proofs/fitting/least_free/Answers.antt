@@ -2,7 +2,7 @@ use Rattle.std.proofs.Common.{rules, arith}
 use Rattle.pg_cells.specs.Shown.{state_of}
 use Rattle.pg_colour.specs.Seen.{at_places, at_slots}
 use Rattle.pg_colour.proofs.TakenLemmas.{least_few}
-use Rattle.pg_colour.proofs.neighbours.least_free.Goals as goal
+use Rattle.pg_colour.proofs.fitting.least_free.Goals as goal
 
 pub returns-clause-least : goal.returns-clause-least
 returns-clause-least c =
