@@ -1,0 +1,25 @@
+//! The winners of the labels, as far as keys have come.
+
+use crate::{NO_KEY, Piece};
+use pg_simd::min_into;
+
+/// Gives each label from `first` on and before `past` its key, and every other label none.
+pub(crate) fn begin(winners: &mut [u64], keys: &[u64], first: usize, past: usize) {
+    winners.fill(NO_KEY);
+    winners[first..past].copy_from_slice(&keys[first..past]);
+}
+
+/// Lowers the winners of the labels from `first` on and before `past` to the keys that the piece gives for them.
+pub(crate) fn lower(winners: &mut [u64], piece: &Piece, first: usize, past: usize) {
+    let base = piece.base as usize;
+    let from = base.max(first);
+    let to = (base + piece.keys.len()).min(past);
+    if from < to {
+        min_into(&mut winners[from..to], &piece.keys[from - base..to - base]);
+    }
+}
+
+/// Whether no label has a winner.
+pub(crate) fn are_none(winners: &[u64]) -> bool {
+    winners.iter().all(|key| *key == NO_KEY)
+}
