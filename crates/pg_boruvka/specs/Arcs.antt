@@ -23,9 +23,9 @@ pub record IsInTables (count edges : ℕ) (a : DenseArc) : Type 0 where
   pub edge : a.edge < edges
 
 -- For each label the key of the least of the arcs that leave it, the label to which that arc leads, and its edge.
-pub record AreLeasts (arcs : List LocalArc) (label : ℕ → ℕ) (keys across : List ℕ) : Type 0 where
+pub record AreLeasts (arcs : List LocalArc) (label : ℕ → ℕ) (keys targets : List ℕ) : Type 0 where
   pub key : (l : ℕ) → l < length keys → slice_index keys l ≡ key_of (least_arc (filter (leaves label l) arcs))
-  pub across : (l : ℕ) (a : LocalArc) → l < length keys → least_arc (filter (leaves label l) arcs) ≡ Some a → slice_index across l ≡ label a.to
+  pub across : (l : ℕ) (a : LocalArc) → l < length keys → least_arc (filter (leaves label l) arcs) ≡ Some a → slice_index targets l ≡ label a.to
   pub edge : (l : ℕ) (a : LocalArc) → l < length keys → least_arc (filter (leaves label l) arcs) ≡ Some a → slice_index keys l % MAX_EDGES ≡ a.edge
 
 -- A key, where there is one, is that of one of so many edges.

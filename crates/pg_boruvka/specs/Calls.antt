@@ -40,7 +40,7 @@ pub record SentOne (old : Dense) (sent : List (List (Body Message))) (new : Dens
   pub other : IsOther old.rank.0 old.ranks to
   pub unpassed : IsPassed old to number → ⊥
   pub is : IsAt old old.stage to number message
-  pub sent : more ≡ append_at sent to (Item message)
+  pub grew : more ≡ append_at sent to (Item message)
   pub rest : DidNoMessage old new
 
 -- Every message of this round was passed.

@@ -6,8 +6,8 @@ use Rattle.pg_boruvka.specs.Winners.{given_key}
 
 -- The labels from the first on and before the past one.
 pub record IsBetween (first past l : ℕ) : Type 0 where
-  pub first : first ≤ l
-  pub past : l < past
+  pub from : first ≤ l
+  pub before : l < past
 
 -- The winners between are lowered to the keys that the message gives.
 pub record AreLowered (m : Message) (first past : ℕ) (old new : List ℕ) : Type 0 where

@@ -19,8 +19,8 @@ AreStill targets edges = (l : ℕ) → l < length targets → slice_index edges 
 
 -- No label is hooked.
 pub record AreUnhooked (targets edges : List ℕ) : Type 0 where
-  pub targets : (l : ℕ) → l < length targets → slice_index targets l ≡ l
-  pub edges : (l : ℕ) → l < length edges → slice_index edges l ≡ NO_EDGE
+  pub still : (l : ℕ) → l < length targets → slice_index targets l ≡ l
+  pub none : (l : ℕ) → l < length edges → slice_index edges l ≡ NO_EDGE
 
 -- The hook was noted, where its source had none; no other label's hook changed.
 pub record IsNoted (h : Hook) (targets edges new_targets new_edges : List ℕ) : Type 0 where

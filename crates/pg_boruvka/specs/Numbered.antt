@@ -8,6 +8,6 @@ use Rattle.pg_boruvka.specs.Winners.{piece_from}
 pub record IsPieceNo (key : ℕ → ℕ) (first count number : ℕ) (m : Message) : Type 0 where
   pub offset : ℕ
   pub below : offset < count
-  pub number : offset / 8 ≡ number
+  pub stands : offset / 8 ≡ number
   pub used : key (first + offset) ≢ NO_KEY
   pub is : m ≡ piece_from key (first + count) (first + number * 8)

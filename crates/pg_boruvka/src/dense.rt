@@ -1,12 +1,10 @@
 //! A rank of Borůvka's method.
 
-use crate::Phases;
 use crate::arcs::{DenseArc, arcs_of};
 use crate::blocks::{count_labels, first_label};
-use crate::chosen;
 use crate::gathering::gather;
 use crate::hooks::Hooks;
-use crate::{NO_KEY, winners};
+use crate::{NO_KEY, Phases, chosen, winners};
 use pg_adj::Part;
 use pg_base::{OutOfMemory, RankNo, Ranks};
 use pg_group::Vote;

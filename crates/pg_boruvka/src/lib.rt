@@ -7,12 +7,12 @@
 mod arcs;
 mod blocks;
 mod chosen;
+mod cutting;
 mod dense;
 mod gathering;
 mod hooks;
 pub mod laws;
 mod messages;
-mod pieces;
 mod pointers;
 mod programs;
 mod rounds;

@@ -1,8 +1,8 @@
 //! Borůvka's method as a rank program.
 
+use crate::cutting::next_piece;
 use crate::dense::{Dense, Stage};
 use crate::hooks::next_own_hook;
-use crate::pieces::next_piece;
 use crate::pointers::{move_labels, point, shorten};
 use crate::{Hook, Message, Piece, chosen, winners};
 use pg_base::{RankNo, Ranks};

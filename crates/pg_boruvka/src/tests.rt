@@ -185,12 +185,7 @@ fn seated<M: Mailbox<Message> + Drop>(
 }
 
 // The programs of so many ranks over the blocks of a graph.
-fn sites(
-    alloc: Global,
-    graph: &EdgeList,
-    count: u32,
-    capacity: u32,
-) -> Result<Vec<Seat>, Fail>
+fn sites(alloc: Global, graph: &EdgeList, count: u32, capacity: u32) -> Result<Vec<Seat>, Fail>
     requires at_least { 1 ≤ capacity }
     requires at_most { capacity ≤ 1024 }
 {

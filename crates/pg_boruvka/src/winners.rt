@@ -1,16 +1,29 @@
 //! The winners of the labels, as far as keys have come.
+ghost use Rattle.std.specs.Prelude.{◌≡◌, ℕ, ◌<◌, ◌≤◌, true, false, ◌↔◌, length, slice_index};
+ghost use Rattle.pg_boruvka.specs.declared.messages.Message.TheVariants.{Piece as Keys};
+ghost use Rattle.pg_boruvka.specs.Lowered.{AreLowered, AreBegun};
 
 use crate::{NO_KEY, Piece};
 use pg_simd::min_into;
 
 /// Gives each label from `first` on and before `past` its key, and every other label none.
-pub(crate) fn begin(winners: &mut [u64], keys: &[u64], first: usize, past: usize) {
+pub(crate) fn begin(winners: &mut [u64], keys: &[u64], first: usize, past: usize)
+    requires order { first ≤ past }
+    requires within { past ≤ length winners.old }
+    requires each { length keys.now ≡ length winners.old }
+    ensures begun { AreBegun keys.now first past winners.new }
+    ensures same_count { length winners.new ≡ length winners.old }
+{
     winners.fill(NO_KEY);
     winners[first..past].copy_from_slice(&keys[first..past]);
 }
 
 /// Lowers the winners of the labels from `first` on and before `past` to the keys that the piece gives for them.
-pub(crate) fn lower(winners: &mut [u64], piece: &Piece, first: usize, past: usize) {
+pub(crate) fn lower(winners: &mut [u64], piece: &Piece, first: usize, past: usize)
+    requires { past ≤ length winners.old }
+    ensures lowered { AreLowered (Keys piece.now) first past winners.old winners.new }
+    ensures same_count { length winners.new ≡ length winners.old }
+{
     let base = piece.base as usize;
     let from = base.max(first);
     let to = (base + piece.keys.len()).min(past);
@@ -20,6 +33,8 @@ pub(crate) fn lower(winners: &mut [u64], piece: &Piece, first: usize, past: usiz
 }
 
 /// Whether no label has a winner.
-pub(crate) fn are_none(winners: &[u64]) -> bool {
+pub(crate) fn are_none(winners: &[u64]) -> bool
+    ensures { (result ≡ true) ↔ ((l : ℕ) → l < length winners.now → slice_index winners.now l ≡ NO_KEY) }
+{
     winners.iter().all(|key| *key == NO_KEY)
 }
