@@ -31,11 +31,15 @@ stage_no stage.Hook = 2
 
 -- the part of the graph that it has
 abbrev pub part_in : Dense → Part
-part_in d = part_of (length d.chosen.items) d.part.value
+part_in d = part_of (length d.tables.chosen.items) d.part.value
 
 -- the label of each vertex
 abbrev pub label_of : Dense → ℕ → ℕ
 label_of d v = slice_index d.tables.labels.items v
+
+-- the indices of the edges that were chosen in the phases that have ended
+abbrev pub edges_in : Dense → List ℕ
+edges_in d = marked d.tables.chosen.items
 
 abbrev pub round_of : Dense → ℕ
 round_of d = 3 * count_of d.phases + stage_no d.stage
@@ -46,7 +50,7 @@ state_of d = record {
   cast = d.cast;
   ended = d.ended;
   label = label_of d;
-  edges = marked d.chosen.items;
+  edges = marked d.tables.chosen.items;
 }
 
 -- The message with this number that a rank is sent in this round.
@@ -68,7 +72,7 @@ pub record AreSentSoFar (sent : List (List (Body Message))) (d : Dense) : Type 0
 
 -- Its arcs are those of the part whose ends differ in label, and its keys are those of the least that leave a label.
 pub record IsGathered (d : Dense) : Type 0 where
-  pub arcs : locals d.arcs.items ≡ filter (is_apart (label_of d)) (part_in d).arcs
+  pub arcs : locals d.tables.arcs.items ≡ filter (is_apart (label_of d)) (part_in d).arcs
   pub leasts : AreLeasts (part_in d).arcs (label_of d) d.tables.keys.items d.tables.across.items
 
 -- The hooks that are noted are some of these, one for each label that has one.
@@ -81,7 +85,7 @@ pub record AreNotedOf (hooks : List Hook) (d : Dense) : Type 0 where
 pub record IsNewDense (d : Dense) : Type 0 where
   pub gathered : IsGathered d
   pub labels : (v : ℕ) → IsVertex d.n v → label_of d v ≡ v
-  pub unchosen : marked d.chosen.items ≡ []
+  pub unchosen : marked d.tables.chosen.items ≡ []
   pub stage : d.stage ≡ stage.Up
   pub phases : count_of d.phases ≡ 0
   pub to : d.to ≡ 0
@@ -96,6 +100,8 @@ pub record KeepsDense (start : Dense) (handled sent : List (List (Body Message))
   pub part : part_in d ≡ part_in start
   pub local : LocalDense MAX_VERTICES (part_in d) handled sent (state_of d)
   pub gathered : IsGathered d
+  pub alone : list_at handled d.rank.0 ≡ []
+  pub running : d.cast ≡ None → d.ended ≡ false
   pub winners : d.ended ≡ false → (l : ℕ) → IsVertex d.n l → slice_index d.tables.winners.items l ≡ winner (part_in d) handled (label_of d) (count_of d.phases) l
   pub hooks : d.ended ≡ false → d.stage ≡ stage.Hook → AreNotedOf (hooks_of (part_in d) handled (label_of d) (count_of d.phases)) d
   pub sent_so_far : d.cast ≡ None → AreSentSoFar sent d

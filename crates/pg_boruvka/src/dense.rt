@@ -1,14 +1,17 @@
 //! A rank of Borůvka's method.
+ghost use Rattle.std.specs.Prelude.{◌≡◌, ℕ, ◌+◌, ◌<◌, ◌≤◌, true, All, IfOk, length};
+ghost use Rattle.pg_base.specs.declared.TheConstants.{MAX_EDGES, MAX_VERTICES};
+ghost use Rattle.pg_adj.specs.Portions.{IsPortion};
 
-use crate::arcs::{DenseArc, arcs_of};
+use crate::Phases;
+use crate::arcs::arcs_of;
 use crate::blocks::{count_labels, first_label};
-use crate::gathering::gather;
-use crate::hooks::Hooks;
-use crate::{NO_KEY, Phases, chosen, winners};
+use crate::chosen;
+use crate::tables::Tables;
 use pg_adj::Part;
 use pg_base::{OutOfMemory, RankNo, Ranks};
 use pg_group::Vote;
-use std::alloc::{AllocError, Global};
+use std::alloc::Global;
 use std::snapshot::Snapshot;
 
 /// A round of a phase, by what is sent in it: best keys to the reducers of their labels, winners to every rank, and hooks.
@@ -17,20 +20,6 @@ pub(crate) enum Stage {
     Up,
     Down,
     Hook,
-}
-
-/// What a rank knows by label.
-#[derive(Drop)]
-pub(crate) struct Tables {
-    /// The label of each vertex.
-    pub(crate) labels: Vec<u32>,
-    /// The least key of an own arc from the label to another.
-    pub(crate) keys: Vec<u64>,
-    /// To which label that arc leads.
-    pub(crate) across: Vec<u32>,
-    /// The least key known of an arc from the label to another.
-    pub(crate) winners: Vec<u64>,
-    pub(crate) hooks: Hooks,
 }
 
 /// The rank program that chooses the least spanning forest of a divided graph. Every rank keeps a label of every vertex.
@@ -44,11 +33,7 @@ pub struct Dense {
     pub(crate) rank: RankNo,
     pub(crate) ranks: Ranks,
     pub(crate) n: u32,
-    // The arcs whose ends differ in label.
-    pub(crate) arcs: Vec<DenseArc>,
     pub(crate) tables: Tables,
-    // Whether each edge is chosen.
-    pub(crate) chosen: Vec<bool>,
     // This round's messages to the ranks below `to` were sent, and to it those whose numbers are below `at`.
     pub(crate) to: u32,
     pub(crate) at: u32,
@@ -57,19 +42,32 @@ pub struct Dense {
     pub(crate) cast: Option<Vote>,
     pub(crate) ended: bool,
     pub(crate) phases: Phases,
+    ghost is_rank: { part.value.rank ≡ rank.0 },
+    ghost is_size: { part.value.ranks ≡ ranks },
+    ghost is_count: { part.value.n ≡ n },
+    ghost is_portion: { IsPortion part.value },
+    ghost each_label: { length tables.labels.items ≡ n + 1 },
+    ghost rests: { idle ≡ true → ranks ≤ to },
 }
 
 impl Dense {
+    ghost use Rattle.pg_boruvka.specs.Winners.{first_label, labels_of};
+    ghost use Rattle.pg_boruvka.specs.Portions.{part_of};
+    ghost use Rattle.pg_boruvka.specs.Chosen.{marked};
+    ghost use Rattle.pg_boruvka.specs.Shown.{part_in, IsNewDense, edges_in};
+
     /// The program of one part of a graph with so many edges. Each vertex is its own label, and no edge is chosen. Takes 16
     /// bytes for each arc, 32 for each vertex of the graph, and one for each edge. `OutOfMemory` comes only where memory is wanting.
-    pub fn new(alloc: Global, part: Part, edges: u32) -> Result<Dense, OutOfMemory> {
+    pub fn new(alloc: Global, part: Part, edges: u32) -> Result<Dense, OutOfMemory>
+        requires few { edges ≤ MAX_EDGES }
+        requires each { All (λ a. a.edge < edges) part.arcs }
+        ensures new { IfOk result (λ d. IsNewDense d) }
+        ensures part { IfOk result (λ d. part_in d ≡ part_of edges part) }
+    {
         let snapshot = Snapshot::of(&part);
         let arcs = arcs_of(alloc, &part)?;
         let n = part.n();
-        let Ok(tables) = Tables::new(alloc, n as usize + 1) else {
-            return Err(OutOfMemory);
-        };
-        let Ok(chosen) = vec![in alloc; false; edges as usize] else {
+        let Ok(tables) = Tables::new(alloc, arcs, n, edges) else {
             return Err(OutOfMemory);
         };
         let mut dense = Dense {
@@ -77,9 +75,7 @@ impl Dense {
             rank: part.rank(),
             ranks: part.ranks(),
             n,
-            arcs,
             tables,
-            chosen,
             to: 0,
             at: 0,
             stage: Stage::Up,
@@ -88,52 +84,30 @@ impl Dense {
             ended: false,
             phases: Phases::None,
         };
-        dense.begin_phase();
+        let (first, past) = dense.labels_of(dense.rank);
+        dense.tables.begin_phase(first, past);
         Ok(dense)
     }
 
     /// The indices of the edges that were chosen in the phases that have ended, ascending. Takes 4 bytes for each.
-    pub fn edges(&self, alloc: Global) -> Result<Vec<u32>, OutOfMemory> {
-        chosen::list(alloc, &self.chosen).map_err(|_| OutOfMemory)
+    /// `OutOfMemory` comes only where memory is wanting.
+    pub fn edges(&self, alloc: Global) -> Result<Vec<u32>, OutOfMemory>
+        ensures { IfOk result (λ edges. edges.items ≡ edges_in self.now) }
+    {
+        chosen::list(alloc, &self.tables.chosen).map_err(|_| OutOfMemory)
     }
 
     // The labels of a rank: the first, and the one past the last.
-    pub(crate) fn labels_of(&self, rank: RankNo) -> (u32, u32) {
+    pub(crate) fn labels_of(&self, rank: RankNo) -> (u32, u32)
+        requires { rank.0 < self.now.ranks }
+        ensures first { result.0 ≡ first_label (part_in self.now) rank.0 }
+        ensures past { result.1 ≡ first_label (part_in self.now) rank.0 + labels_of (part_in self.now) rank.0 }
+        ensures least { 1 ≤ result.0 }
+        ensures within { result.1 ≤ self.now.n + 1 }
+    {
+        let _n = self.tables.labels.len();
         let ranks = self.ranks.count();
         let first = first_label(self.n, ranks, rank.0);
         (first, first + count_labels(self.n, ranks, rank.0))
-    }
-
-    // Finds the best keys of this rank's arcs, which are the first winners of its own labels.
-    pub(crate) fn begin_phase(&mut self) {
-        let (first, past) = self.labels_of(self.rank);
-        let tables = &mut self.tables;
-        gather(
-            &mut self.arcs,
-            &tables.labels,
-            &mut tables.keys,
-            &mut tables.across,
-        );
-        winners::begin(
-            &mut tables.winners,
-            &tables.keys,
-            first as usize,
-            past as usize,
-        );
-        tables.hooks.clear();
-    }
-}
-
-impl Tables {
-    fn new(alloc: Global, count: usize) -> Result<Tables, AllocError> {
-        let hooks = Hooks::new(alloc, count)?;
-        let labels = hooks.targets.clone()?;
-        Ok(Tables {
-            labels,
-            keys: vec![in alloc; NO_KEY; count]?,
-            across: vec![in alloc; 0; count]?,
-            winners: vec![in alloc; NO_KEY; count]?,
-            hooks,
-        })
     }
 }

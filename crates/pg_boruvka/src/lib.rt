@@ -16,6 +16,8 @@ mod messages;
 mod pointers;
 mod programs;
 mod rounds;
+mod sending;
+mod tables;
 #[cfg(test)]
 mod tests;
 mod winners;

@@ -1,10 +1,9 @@
 //! Borůvka's method as a rank program.
+ghost use Rattle.std.specs.Prelude.{◌≡◌, ◌≢◌, ℕ, ◌+◌, ◌<◌, ◌≤◌, None, true, false, length, slice_get};
+ghost use Rattle.pg_group.specs.declared.programs.Next.TheVariants.{Again};
 
-use crate::cutting::next_piece;
 use crate::dense::{Dense, Stage};
-use crate::hooks::next_own_hook;
-use crate::pointers::{move_labels, point, shorten};
-use crate::{Hook, Message, Piece, chosen, winners};
+use crate::{Hook, Message, Piece};
 use pg_base::{RankNo, Ranks};
 use pg_group::{Narrow, Next, Outbox, Program, Vote, Worked};
 
@@ -16,80 +15,58 @@ const ZEROS: Vote = Vote {
 };
 
 impl Dense {
+    ghost use Rattle.pg_boruvka.specs.Hooks.{is_within};
+    ghost use Rattle.pg_boruvka.specs.Shown.{part_in};
+    ghost use Rattle.pg_boruvka.specs.Calls.{IsMerged, IsTaken};
+
     // Lowers the winners that the piece speaks of in this round: those of own labels first, then those of the others.
-    fn merge(&mut self, piece: &Piece) {
+    fn merge(&mut self, piece: &Piece)
+        ensures merged { IsMerged self.old piece.now self.new.tables.winners.items }
+        ensures rest { self.new ≡ record self.old { tables = record self.old.tables { winners = self.new.tables.winners } } }
+    {
         let (first, past) = self.labels_of(self.rank);
-        let winners = &mut self.tables.winners;
-        let end = winners.len();
+        let end = self.n + 1;
         match self.stage {
-            Stage::Up => winners::lower(winners, piece, first as usize, past as usize),
+            Stage::Up => self.tables.lower(piece, first, past),
             Stage::Down => {
-                winners::lower(winners, piece, 1, first as usize);
-                winners::lower(winners, piece, past as usize, end);
+                self.tables.lower(piece, 1, first);
+                self.tables.lower(piece, past, end);
             }
             Stage::Hook => {}
         }
     }
 
-    // Notes a hook whose numbers are in range.
-    fn note(&mut self, hook: &Hook) {
+    // Whether the hook's numbers are those of labels and an edge.
+    fn are_within(&self, hook: &Hook) -> bool
+        ensures { result ≡ is_within (part_in self.now) hook.now }
+    {
         let labels = 1..self.n + 1;
-        if self.stage == Stage::Hook
-            && labels.contains(&hook.source)
+        labels.contains(&hook.source)
             && labels.contains(&hook.target)
-            && (hook.edge as usize) < self.chosen.len()
-        {
-            self.tables.hooks.note(hook);
+            && (hook.edge as usize) < self.tables.chosen.len()
+    }
+
+    // Notes a hook whose numbers are in range.
+    fn note(&mut self, hook: &Hook)
+        ensures taken { IsTaken self.old hook.now self.new }
+        ensures rest { self.new ≡ record self.old { tables = record self.old.tables { hooks = self.new.tables.hooks } } }
+    {
+        if self.stage == Stage::Hook && self.are_within(hook) {
+            self.tables.note(hook);
         }
     }
 
-    // The next message to a rank in this round, from the number `at` on, with its number.
-    fn next_to(&self, to: RankNo, at: u32) -> Option<(u32, Message)> {
-        let tables = &self.tables;
-        match self.stage {
-            Stage::Up => {
-                let (first, past) = self.labels_of(to);
-                let (number, piece) = next_piece(&tables.keys, first, past, at)?;
-                Some((number, Message::Piece(piece)))
-            }
-            Stage::Down => {
-                let (first, past) = self.labels_of(self.rank);
-                let (number, piece) = next_piece(&tables.winners, first, past, at)?;
-                Some((number, Message::Piece(piece)))
-            }
-            Stage::Hook => {
-                let from = at.max(1);
-                let hook = next_own_hook(&tables.keys, &tables.across, &tables.winners, from)?;
-                Some((hook.source, Message::Hook(hook)))
-            }
-        }
-    }
-
-    // Goes on to the next message of this round.
-    fn seek(&mut self) -> Option<(RankNo, Message)> {
-        while self.to < self.ranks.count() {
-            let to = RankNo(self.to);
-            if to != self.rank
-                && let Some((number, message)) = self.next_to(to, self.at)
-            {
-                self.at = number;
-                return Some((to, message));
-            }
-            self.to += 1;
-            self.at = 0;
-        }
-        None
-    }
-
-    // Ends a phase: labels move along the hooks' pointers, and the hooks' edges are chosen.
-    fn end_phase(&mut self) {
-        let tables = &mut self.tables;
-        chosen::mark(&mut self.chosen, &tables.hooks.edges);
-        point(&mut tables.hooks.targets);
-        shorten(&mut tables.hooks.targets);
-        move_labels(&mut tables.labels, &tables.hooks.targets);
-        self.phases.count();
-        self.begin_phase();
+    // Begins a round.
+    fn begin_round(&mut self, stage: Stage) -> Next
+        ensures again { result ≡ Again }
+        ensures begun { self.new ≡ record self.old { stage = stage; to = 0; at = 0; cast = None; idle = false } }
+    {
+        self.stage = stage;
+        self.to = 0;
+        self.at = 0;
+        self.cast = None;
+        self.idle = false;
+        Next::Again
     }
 }
 
@@ -136,9 +113,6 @@ impl Program for Dense {
     }
 
     fn handle(&mut self, _from: RankNo, message: Message) {
-        if self.ended {
-            return;
-        }
         match message {
             Message::Piece(piece) => self.merge(&piece),
             Message::Hook(hook) => self.note(&hook),
@@ -167,28 +141,23 @@ impl Program for Dense {
 
     fn round_end(&mut self, _votes: &[Vote]) -> Next {
         match self.stage {
-            Stage::Up => self.stage = Stage::Down,
+            Stage::Up => self.begin_round(Stage::Down),
             Stage::Down => {
-                let tables = &mut self.tables;
-                if winners::are_none(&tables.winners) {
+                if self.tables.is_over() {
                     self.ended = true;
                     return Next::Stop;
                 }
-                tables
-                    .hooks
-                    .note_own(&tables.keys, &tables.across, &tables.winners);
-                self.stage = Stage::Hook;
+                self.tables.note_own();
+                self.begin_round(Stage::Hook)
             }
             Stage::Hook => {
-                self.end_phase();
-                self.stage = Stage::Up;
+                self.tables.end_phase();
+                let (first, past) = self.labels_of(self.rank);
+                self.tables.begin_phase(first, past);
+                self.phases.count();
+                self.begin_round(Stage::Up)
             }
         }
-        self.to = 0;
-        self.at = 0;
-        self.cast = None;
-        self.idle = false;
-        Next::Again
     }
 }
 

@@ -32,9 +32,10 @@ pub(crate) fn lower(winners: &mut [u64], piece: &Piece, first: usize, past: usiz
     }
 }
 
-/// Whether no label has a winner.
+/// Whether no label has a winner. The entry 0 isn't a label's.
 pub(crate) fn are_none(winners: &[u64]) -> bool
-    ensures { (result ≡ true) ↔ ((l : ℕ) → l < length winners.now → slice_index winners.now l ≡ NO_KEY) }
+    requires { 1 ≤ length winners.now }
+    ensures { (result ≡ true) ↔ ((l : ℕ) → 1 ≤ l → l < length winners.now → slice_index winners.now l ≡ NO_KEY) }
 {
-    winners.iter().all(|key| *key == NO_KEY)
+    winners[1..].iter().all(|key| *key == NO_KEY)
 }
