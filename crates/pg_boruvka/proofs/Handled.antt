@@ -126,9 +126,10 @@ among_within part (Keys piece ∷ messages) h c = among_within part messages h c
 among_within part (Hooked g ∷ messages) h c = within_step part g (hooks_among part messages) h (is_within part g) refl (among_within part messages h) c
 
 -- A hook more among the messages.
-pub hooks_grown : (part : Part) (m : Message) (old new : List Message) (h : Hook) → Grown m old new → Contains (hooks_among part new) h → (m ≡ Hooked h) ⊎ Contains (hooks_among part old) h
+pub hooks_grown : (part : Part) (m : Message) (old new : List Message) (h : Hook) → Grown m old new → Contains (hooks_among part new) h
+    → ((m ≡ Hooked h) × (is_within part h ≡ true)) ⊎ Contains (hooks_among part old) h
 hooks_grown part m old new h grown c = ⊎_elim
-    (λ same. inl same)
+    (λ same. inl (same, among_within part new h c))
     (λ there. inr (message_is_hook part old h (among_within part new h c) there))
     (grown_cases m old new (Hooked h) grown (hook_is_message part new h c))
 
