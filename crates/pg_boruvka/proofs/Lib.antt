@@ -15,3 +15,4 @@ pub mod Agreeing
 pub mod Keeping
 pub mod Stepping
 pub mod ExampleRun
+pub mod PointerWalks
