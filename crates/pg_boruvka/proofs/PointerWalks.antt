@@ -1,10 +1,11 @@
 -- Pointers that are doubled lead on to the end of their walk.
-use Rattle.std.proofs.Common.{Bool, true, false, All, ◌≡◌, ◌≢◌, ◌⊎◌, ℕ, zero, suc, ◌+◌, ◌-◌, ◌*◌, ◌<◌, ◌≤◌, List, length, refl, sym, ap, ◌∙◌, subst, inl, inr, arith, below_more, get_or-set_same, get_or-set_other}
+use Rattle.std.proofs.Common.{Bool, true, false, All, ◌≡◌, ◌≢◌, ◌⊎◌, ℕ, zero, suc, ◌+◌, ◌-◌, ◌*◌, ◌^◌, ◌<◌, ◌≤◌, List, length, refl, sym, ap, ◌∙◌, subst, inl, inr, arith, below_more, get_or-set_same, get_or-set_other}
 use Rattle.std.specs.Prelude.{slice_index, slice_set}
 use Rattle.std.proofs.lemmas.Bool.{cases_lt, true≢false}
 use Rattle.std.proofs.lemmas.List.{length-set}
 use Rattle.std.proofs.lemmas.List.Elements.{All-set}
-use Rattle.std.proofs.Math.Nat.{mul-le-mul_right, mul-le-mul_left}
+use Rattle.std.proofs.Math.Nat.{mul-le-mul_right, mul-le-mul_left, two-pow-succ}
+use Rattle.std.proofs.lemmas.Nat.{pow_pos}
 use Rattle.pg_boruvka.specs.Pointers.{walk, IsReached, AreReached, AreAtEnds}
 
 walk_none : (f : ℕ → ℕ) (l : ℕ) → walk f 0 l ≡ l
@@ -173,3 +174,39 @@ doubling_same old now label changed within h same is = record {
         (subst (λ (p : List ℕ). slice_index p (slice_index p label) ≡ slice_index p label) (is.unchanged e).same same);
     };
   }
+
+-- After so many doublings of pointers.
+pub record IsShortening (old now : List ℕ) (times : ℕ) : Type 0 where
+  pub same_count : length now ≡ length old
+  pub within : All (λ p. p < length old) now
+  pub reached : AreReached old (2 ^ times) now
+
+one_step : (f : ℕ → ℕ) (l : ℕ) → f l ≡ walk f 1 l
+unfolding walk
+one_step f l = refl
+
+pub shortening_none : (old : List ℕ) → All (λ p. p < length old) old → IsShortening old old 0
+shortening_none old within = record {
+    same_count = refl;
+    within = within;
+    reached = λ l h. record { count = 1; many = omega arith; is = one_step (slice_index old) l };
+  }
+
+pub shortening_more : (old now new : List ℕ) (times : ℕ) → IsShortening old now times → AreReached now 2 new → length new ≡ length now → All (λ p. p < length new) new → IsShortening old new (times + 1)
+shortening_more old now new times is doubled same within =
+    let next : times + 1 ≡ suc times = omega arith in
+    let turns : 2 ^ (times + 1) ≡ 2 ^ times + 2 ^ times = ap (λ t. 2 ^ t) next ∙ two-pow-succ times in
+    record {
+      same_count = same ∙ is.same_count;
+      within = subst (λ (n : ℕ). All (λ p. p < n) new) (same ∙ is.same_count) within;
+      reached = subst (λ (few : ℕ). AreReached old few new) (sym turns)
+        (reached_twice old now new (2 ^ times) is.same_count (λ l h. is.within l 0 (omega (arith, is.same_count, h))) is.reached doubled);
+    }
+
+pub shortened_far : (old now : List ℕ) (times far : ℕ) → far ≤ 2 ^ times → IsShortening old now times → AreReached old far now
+shortened_far old now times far enough is l h = let r = is.reached l h in record { count = r.count; many = omega (arith, r.many, enough); is = r.is }
+
+pub shortened_at_ends : (old now : List ℕ) (times far : ℕ) → IsShortening old now times → AreAtEnds now → AreReached old far now
+shortened_at_ends old now times far is at_ends =
+    let some : 1 ≤ 2 ^ times = pow_pos times in
+    reached_at_ends old now (2 ^ times) far some is.same_count (λ l h. is.within l 0 (omega (arith, is.same_count, h))) is.reached at_ends
