@@ -16,3 +16,4 @@ pub mod Keeping
 pub mod Stepping
 pub mod ExampleRun
 pub mod PointerWalks
+pub mod PointerPairs
