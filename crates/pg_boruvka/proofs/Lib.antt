@@ -17,3 +17,4 @@ pub mod Stepping
 pub mod ExampleRun
 pub mod PointerWalks
 pub mod PointerPairs
+pub mod LabelMoves
