@@ -17,3 +17,6 @@ pub mod Stepping
 pub mod ExampleRun
 pub mod Handled
 pub mod Taking
+pub mod PointerWalks
+pub mod PointerPairs
+pub mod LabelMoves

@@ -1,8 +1,8 @@
 //! Labels at the ends of their pointers.
 //! Source: Wyllie, The Complexity of Parallel Computations (1979): pointer jumping.
-ghost use Rattle.std.specs.Prelude.{◌≡◌, ℕ, ◌^◌, ◌<◌, ◌≤◌, true, All, length, map, slice_index};
+ghost use Rattle.std.specs.Prelude.{◌≡◌, ℕ, ◌^◌, ◌<◌, ◌≤◌, false, All, length, map, slice_index};
 ghost use Rattle.pg_forest.specs.Phases.{point as pointed};
-ghost use Rattle.pg_boruvka.specs.Pointers.{AreShortened};
+ghost use Rattle.pg_boruvka.specs.Pointers.{AreShortened, AreReached, AreAtEnds};
 
 // So often pointers are doubled: 1,048,576 is two to this power.
 const DOUBLINGS: u32 = 20;
@@ -40,6 +40,8 @@ pub(crate) fn shorten(pointers: &mut [u32])
 // Lets each pointer lead on to where the one that it leads to leads. Answers whether one changed.
 fn double(pointers: &mut [u32]) -> bool
     requires { All (λ l. l < length pointers.old) pointers.old }
+    ensures farther { AreReached pointers.old 2 pointers.new }
+    ensures at_ends { result ≡ false → AreAtEnds pointers.new }
     ensures within { All (λ l. l < length pointers.new) pointers.new }
     ensures same_count { length pointers.new ≡ length pointers.old }
 {
