@@ -1,5 +1,6 @@
 pub mod RoundLists
 pub mod Leasts
+pub mod Gathered
 pub mod Pieces
 pub mod Items
 pub mod Runs
