@@ -1,5 +1,7 @@
 pub mod RoundLists
 pub mod Leasts
+pub mod Gathered
+pub mod Lowering
 pub mod Pieces
 pub mod Items
 pub mod Runs
