@@ -19,6 +19,7 @@ pub mod Stepping
 pub mod ExampleRun
 pub mod Handled
 pub mod Taking
+pub mod DueMessages
 pub mod PointerWalks
 pub mod PointerPairs
 pub mod LabelMoves

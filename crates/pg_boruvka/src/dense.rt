@@ -2,6 +2,8 @@
 ghost use Rattle.std.specs.Prelude.{◌≡◌, ℕ, ◌+◌, ◌<◌, ◌≤◌, true, All, IfOk, length};
 ghost use Rattle.pg_base.specs.declared.TheConstants.{MAX_EDGES, MAX_VERTICES};
 ghost use Rattle.pg_adj.specs.Portions.{IsPortion};
+ghost use Rattle.pg_boruvka.specs.Portions.{arcs_below};
+ghost use Rattle.pg_boruvka.specs.Orderly.{IsOrderly};
 
 use crate::Phases;
 use crate::arcs::arcs_of;
@@ -47,6 +49,7 @@ pub struct Dense {
     ghost is_count: { part.value.n ≡ n },
     ghost is_portion: { IsPortion part.value },
     ghost each_label: { length tables.labels.items ≡ n + 1 },
+    ghost orderly: { All (IsOrderly n) (arcs_below part.value (length part.value.vertices)) },
     ghost rests: { idle ≡ true → ranks ≤ to },
 }
 
