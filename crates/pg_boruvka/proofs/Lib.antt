@@ -20,6 +20,8 @@ pub mod ExampleRun
 pub mod Handled
 pub mod Taking
 pub mod DueMessages
+pub mod Passing
+pub mod Regular
 pub mod PointerWalks
 pub mod PointerPairs
 pub mod LabelMoves
