@@ -22,6 +22,7 @@ pub mod Taking
 pub mod DueMessages
 pub mod Passing
 pub mod Regular
+pub mod Merging
 pub mod PointerWalks
 pub mod PointerPairs
 pub mod LabelMoves
