@@ -192,7 +192,7 @@ handling_keeps far part handled sent s from m other keeps =
           (cases_lt s.round (3 * p));
     }
 
-none_at : (n r : ℕ) → list_at (nothing {B = Message} n) r ≡ []
+pub none_at : (n r : ℕ) → list_at (nothing {B = Message} n) r ≡ []
 none_at zero r = refl
 none_at (suc n) zero = refl
 none_at (suc n) (suc r) = none_at n r

@@ -23,6 +23,7 @@ pub mod DueMessages
 pub mod Passing
 pub mod Regular
 pub mod Merging
+pub mod BeginningPhases
 pub mod PointerWalks
 pub mod PointerPairs
 pub mod LabelMoves

@@ -4,6 +4,7 @@ use Rattle.pg_base.specs.declared.TheConstants.{MAX_VERTICES}
 use Rattle.pg_group.specs.declared.messages.Body.{Body}
 use Rattle.pg_group.specs.Ranked.{IsOther, list_at}
 use Rattle.pg_group.specs.Rounds.{items_of_round}
+use Rattle.pg_group.specs.Supersteps.{nothing}
 use Rattle.pg_adj.specs.Portions.{IsVertex}
 use Rattle.pg_boruvka.specs.declared.messages.Hook.{Hook}
 use Rattle.pg_boruvka.specs.declared.messages.Message.{Message}
@@ -75,7 +76,7 @@ pub record AreEach (v : View) : Type 0 where
 -- Nothing was called of it yet.
 pub record IsNewView (v : View) : Type 0 where
   pub gathered : IsGathered v
-  pub winners : (l : ℕ) → IsVertex v.part.n l → slice_index v.known.winners l ≡ winner v.part [] (label_of v) 0 l
+  pub winners : (l : ℕ) → IsVertex v.part.n l → slice_index v.known.winners l ≡ winner v.part (nothing v.part.ranks) (label_of v) 0 l
   pub labels : (x : ℕ) → IsVertex v.part.n x → label_of v x ≡ x
   pub unchosen : marked v.known.chosen ≡ []
   pub stage : v.stage ≡ stage.Up
