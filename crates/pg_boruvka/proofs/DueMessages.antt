@@ -12,6 +12,7 @@ use Rattle.pg_group.specs.declared.messages.Body.{Body}
 use Rattle.pg_group.specs.Ranked.{IsOther, list_at}
 use Rattle.pg_adj.specs.Portions.{IsVertex}
 use Rattle.pg_boruvka.specs.declared.TheConstants.{NO_KEY}
+use Rattle.pg_boruvka.specs.declared.hooks.TheConstants.{NO_EDGE}
 use Rattle.pg_boruvka.specs.declared.messages.Hook.{Hook}
 use Rattle.pg_boruvka.specs.declared.messages.Message.{Message}
 use Rattle.pg_boruvka.specs.declared.messages.Message.TheVariants.{Piece as Keys, Hook as Hooked}
@@ -222,6 +223,10 @@ pub record IsRegular (v : View) : Type 0 where
   pub targets : length v.known.targets ≡ v.part.n + 1
   pub edges : length v.known.edges ≡ v.part.n + 1
   pub orderly : (a : LocalArc) → Contains v.part.arcs a → IsOrderly v.part.n a
+  pub labels_in : (x : ℕ) → x ≤ v.part.n → slice_index v.known.labels x ≤ v.part.n
+  pub targets_in : (l : ℕ) → l ≤ v.part.n → slice_index v.known.targets l ≤ v.part.n
+  pub edges_in : (l : ℕ) → l ≤ v.part.n → slice_index v.known.edges l ≢ NO_EDGE → slice_index v.known.edges l < length v.known.chosen
+  pub few_edges : length v.known.chosen ≤ MAX_EDGES
 
 module _ (far : ℕ) (handled sent : List (List (Body Message))) (v : View) (regular : IsRegular v) (keeps : HasChosen far handled sent v) where
   -- the labels of the phase

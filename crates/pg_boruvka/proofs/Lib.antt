@@ -24,6 +24,7 @@ pub mod Passing
 pub mod Regular
 pub mod Merging
 pub mod BeginningPhases
+pub mod EndingPhases
 pub mod PointerWalks
 pub mod PointerPairs
 pub mod LabelMoves

@@ -19,5 +19,9 @@ regular_of d =
       winners = d.tables.each_winner ∙ labels;
       targets = d.tables.each_target ∙ labels;
       edges = d.tables.each_hook ∙ labels;
+      labels_in = λ x last. let below = d.tables.labels_in x 0 (omega (arith, labels, last)) in omega (arith, below, labels);
+      targets_in = λ l last. let below = d.tables.targets_in l 0 (omega (arith, labels, last, d.tables.each_target)) in omega (arith, below, labels);
+      edges_in = λ l last some. d.tables.hooks_in l 0 (omega (arith, labels, last, d.tables.each_hook)) some;
+      few_edges = d.tables.few_edges;
       orderly = λ a c. subst (λ (x : ℕ). IsOrderly x a) n (All-contains (IsOrderly d.n) (arcs_below d.part.value (length d.part.value.vertices)) a d.orderly c);
     }

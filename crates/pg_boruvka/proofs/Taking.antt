@@ -181,7 +181,7 @@ module _ (far : ℕ) (handled sent : List (List (Body Message))) (v : View) (fro
       let here = in_here far handled sent v from m rank other keeps in
       let was = keeps.hooks running is in
       record {
-        some = λ l h e. hooks_of_stay v.part handled (label_of v) v.phase from m rank here h at (was.some l h e);
+        some = λ l h last e. hooks_of_stay v.part handled (label_of v) v.phase from m rank here h at (was.some l h last e);
         all = λ h c e. ⊎_elim (λ bad. absurd (not_keys h bad.0)) (λ old. was.all h old e) (hooks_of_more v.part handled (label_of v) v.phase from m rank here h at c);
         still = was.still;
       }
@@ -295,14 +295,14 @@ module _ (far : ℕ) (handled sent : List (List (Body Message))) (v : View) (fro
       let note = taken.within is within in
       let joins : Contains (hooks_of v.part (append_at handled from (Item g)) (label_of v) v.phase) h = hook_of_joins v.part handled (label_of v) v.phase from g rank here h refl within at in
       record {
-        some = λ l f e. ⊎_elim
+        some = λ l f last e. ⊎_elim
             (λ same. ⊎_elim
             (λ first. subst (Contains (hooks_of v.part (append_at handled from (Item g)) (label_of v) v.phase))
             (some_hook h f (sym (note.first first) ∙ (ap (noted targets edges) (sym same) ∙ e))) joins)
             (λ later. hooks_of_stay v.part handled (label_of v) v.phase from g rank here f at
-            (was.some h.source f (sym (note.later later) ∙ (ap (noted targets edges) (sym same) ∙ e))))
+            (was.some h.source f (subst (λ (x : ℕ). x ≤ v.part.n) same last) (sym (note.later later) ∙ (ap (noted targets edges) (sym same) ∙ e))))
             (cases_eq (slice_index v.known.edges h.source) NO_EDGE))
-            (λ apart. hooks_of_stay v.part handled (label_of v) v.phase from g rank here f at (was.some l f (sym (note.others l apart) ∙ e)))
+            (λ apart. hooks_of_stay v.part handled (label_of v) v.phase from g rank here f at (was.some l f last (sym (note.others l apart) ∙ e)))
             (cases_eq l h.source);
         all = λ f c e. ⊎_elim
             (λ is_h. has_one f (ap (λ (x : Hook). x.source) (sym (hooked_same h f is_h.0))) e (cases_eq (slice_index v.known.edges h.source) NO_EDGE))
@@ -327,8 +327,8 @@ module _ (far : ℕ) (handled sent : List (List (Body Message))) (v : View) (fro
       let was = keeps.hooks running is in
       let same = taken.ignored within in
       record {
-        some = λ l f e. hooks_of_stay v.part handled (label_of v) v.phase from g rank here f at
-            (was.some l f ((λ i. noted (sym same.0 i) (sym same.1 i) l) ∙ e));
+        some = λ l f last e. hooks_of_stay v.part handled (label_of v) v.phase from g rank here f at
+            (was.some l f last ((λ i. noted (sym same.0 i) (sym same.1 i) l) ∙ e));
         all = λ f c e. ⊎_elim
             (λ is_h. absurd (true≢false (sym is_h.1 ∙ (ap (is_within v.part) (sym (hooked_same h f is_h.0)) ∙ within))))
             (λ old. was.all f old ((λ i. noted (sym same.0 i) (sym same.1 i) f.source) ∙ e))

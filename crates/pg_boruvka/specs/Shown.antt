@@ -1,5 +1,5 @@
 -- What a rank of Borůvka's method promises.
-use Rattle.std.specs.Prelude.{◌≡◌, ◌⊎◌, ℕ, ◌+◌, ◌<◌, false, Some, None, List, [], length, filter, slice_index, Contains}
+use Rattle.std.specs.Prelude.{◌≡◌, ◌⊎◌, ℕ, ◌+◌, ◌<◌, ◌≤◌, false, Some, None, List, [], length, filter, slice_index, Contains}
 use Rattle.pg_base.specs.declared.TheConstants.{MAX_VERTICES}
 use Rattle.pg_group.specs.declared.messages.Body.{Body}
 use Rattle.pg_group.specs.Ranked.{IsOther, list_at}
@@ -60,7 +60,7 @@ pub record IsGathered (v : View) : Type 0 where
 
 -- The hooks that are noted are some of these, one for each label that has one.
 pub record AreNotedOf (hooks : List Hook) (v : View) : Type 0 where
-  pub some : (l : ℕ) (h : Hook) → noted v.known.targets v.known.edges l ≡ Some h → Contains hooks h
+  pub some : (l : ℕ) (h : Hook) → l ≤ v.part.n → noted v.known.targets v.known.edges l ≡ Some h → Contains hooks h
   pub all : (h : Hook) → Contains hooks h → noted v.known.targets v.known.edges h.source ≡ None → ⊥
   pub still : AreStill v.known.targets v.known.edges
 
