@@ -247,7 +247,7 @@ module _ (far : ℕ) (handled sent : List (List (Body Message))) (v : View) (reg
       let last = vertex.last in
       keeps.gathered.leasts.key l (omega (arith, regular.keys)) ∙ key_same v.part (label_of v) phase_label regular.orderly (labels_agree_now sound) l
 
-  winner_is : v.ended ≡ false → AreSoundBefore far v.part handled v.phase → (l : ℕ) → IsVertex v.part.n l → slice_index v.known.winners l ≡ winner v.part handled phase_label v.phase l
+  pub winner_is : v.ended ≡ false → AreSoundBefore far v.part handled v.phase → (l : ℕ) → IsVertex v.part.n l → slice_index v.known.winners l ≡ winner v.part handled phase_label v.phase l
   winner_is running sound l vertex = keeps.winners running l vertex ∙ winner_same v.part (label_of v) phase_label regular.orderly (labels_agree_now sound) handled v.phase l
 
   own_hooks_are : AreSoundBefore far v.part handled v.phase → own_hooks v.part handled (label_of v) v.phase ≡ own_hooks v.part handled phase_label v.phase

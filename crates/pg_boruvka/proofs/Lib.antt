@@ -25,6 +25,7 @@ pub mod Regular
 pub mod Merging
 pub mod BeginningPhases
 pub mod EndingPhases
+pub mod RoundsEnding
 pub mod PointerWalks
 pub mod PointerPairs
 pub mod LabelMoves

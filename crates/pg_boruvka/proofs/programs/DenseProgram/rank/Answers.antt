@@ -1,5 +1,5 @@
 use Rattle.std.proofs.Common.{refl}
-use Rattle.pg_boruvka.proofs.EndingPhases.{next_phase}
+use Rattle.pg_boruvka.proofs.RoundsEnding.{up_keeps}
 use Rattle.pg_base.specs.declared.TheConstants.{MAX_VERTICES}
 use Rattle.pg_boruvka.specs.Known.{view_of}
 use Rattle.pg_boruvka.proofs.BeginningPhases.{new_keeps}
