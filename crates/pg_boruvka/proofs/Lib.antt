@@ -18,3 +18,4 @@ pub mod ExampleRun
 pub mod PointerWalks
 pub mod PointerPairs
 pub mod LabelMoves
+pub mod ArcTables
