@@ -54,3 +54,18 @@ row_locals p v place i old now row end is v_is row_is =
     pushed_locals v old now row (pushed_all v old now row i end is)
     ∙ ap (λ (x : ℕ). locals old ++ map (local_of x) row) v_is
     ∙ ap (λ (xs : List Arc). locals old ++ map (local_of (slice_index p.vertices place)) xs) row_is
+
+-- The arcs of the first places are pushed.
+pub record ArePlaced (p : Portion) (arcs : List DenseArc) (place : ℕ) : Type 0 where
+  pub locals_of : locals arcs ≡ arcs_below p place
+  pub ends : (edges : ℕ) → All (λ (a : Arc). a.edge < edges) p.arcs → All (IsInTables (p.n + 1) edges) arcs
+
+pub placed_more : (p : Portion) (old now : List DenseArc) (place : ℕ) → ArePlaced p old place
+    → locals now ≡ locals old ++ map (local_of (slice_index p.vertices place)) (row_of p.bounds p.arcs place)
+    → ((edges : ℕ) → All (λ (a : Arc). a.edge < edges) p.arcs → All (IsInTables (p.n + 1) edges) old → All (IsInTables (p.n + 1) edges) now)
+    → ArePlaced p now (place + 1)
+placed_more p old now place is pushed ends = record {
+    locals_of = pushed ∙ ap (λ (xs : List LocalArc). xs ++ map (local_of (slice_index p.vertices place)) (row_of p.bounds p.arcs place)) is.locals_of
+        ∙ (let next : suc place ≡ place + 1 = omega arith in ap (arcs_below p) next);
+    ends = λ edges below. ends edges below (is.ends edges below);
+  }
