@@ -19,3 +19,4 @@ pub mod PointerWalks
 pub mod PointerPairs
 pub mod LabelMoves
 pub mod ArcTables
+pub mod ChosenMarks
