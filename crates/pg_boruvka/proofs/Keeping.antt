@@ -69,7 +69,7 @@ entry_same key key' past l same = ⊎_elim
     (λ h. cond-false (nat_lt l past) (key l) NO_KEY (le-ltb l past h) ∙ sym (cond-false (nat_lt l past) (key' l) NO_KEY (le-ltb l past h)))
     (cases_lt l past)
 
-pieces_same : (key key' : ℕ → ℕ) (past base : ℕ) → ((l : ℕ) → base ≤ l → l < past → key l ≡ key' l) → piece_from key past base ≡ piece_from key' past base
+pub pieces_same : (key key' : ℕ → ℕ) (past base : ℕ) → ((l : ℕ) → base ≤ l → l < past → key l ≡ key' l) → piece_from key past base ≡ piece_from key' past base
 pieces_same key key' past base same = λ i. Keys (record {
   base = base;
   keys = entry_same key key' past base (same base (omega arith)) i ∷ entry_same key key' past (base + 1) (same (base + 1) (omega arith)) i

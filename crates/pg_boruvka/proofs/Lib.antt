@@ -1,5 +1,7 @@
 pub mod RoundLists
 pub mod Leasts
+pub mod Gathered
+pub mod Lowering
 pub mod Pieces
 pub mod Items
 pub mod Runs
@@ -15,6 +17,8 @@ pub mod Agreeing
 pub mod Keeping
 pub mod Stepping
 pub mod ExampleRun
+pub mod Handled
+pub mod Taking
 pub mod PointerWalks
 pub mod PointerPairs
 pub mod LabelMoves

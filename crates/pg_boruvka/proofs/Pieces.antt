@@ -50,10 +50,10 @@ eight_cases key past base d = ⊎_elim
     (λ h. inl (eight_past key past base d h))
     (cases_lt d 8)
 
-given_within : (l base : ℕ) (keys : List ℕ) → base ≤ l → given_key l (Keys (record { base = base; keys = keys })) ≡ slice_index_or keys (l - base) NO_KEY
+pub given_within : (l base : ℕ) (keys : List ℕ) → base ≤ l → given_key l (Keys (record { base = base; keys = keys })) ≡ slice_index_or keys (l - base) NO_KEY
 given_within l base keys h = cond-false (nat_lt l base) NO_KEY (slice_index_or keys (l - base) NO_KEY) (le-ltb l base h)
 
-given_below : (l base : ℕ) (keys : List ℕ) → l < base → given_key l (Keys (record { base = base; keys = keys })) ≡ NO_KEY
+pub given_below : (l base : ℕ) (keys : List ℕ) → l < base → given_key l (Keys (record { base = base; keys = keys })) ≡ NO_KEY
 given_below l base keys h = cond-true (nat_lt l base) NO_KEY (slice_index_or keys (l - base) NO_KEY) (lt-ltb l base h)
 
 -- The piece gives the label nothing, or its key, and then the label is one of those that the pieces are of.

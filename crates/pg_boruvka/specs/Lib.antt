@@ -13,5 +13,6 @@ pub mod Pointers
 pub mod Lowered
 pub mod Numbered
 pub mod Phasing
+pub mod Known
 pub mod Shown
 pub mod Calls

@@ -53,8 +53,8 @@ pub struct Dense {
 impl Dense {
     ghost use Rattle.pg_boruvka.specs.Winners.{first_label, labels_of};
     ghost use Rattle.pg_boruvka.specs.Portions.{part_of};
-    ghost use Rattle.pg_boruvka.specs.Chosen.{marked};
-    ghost use Rattle.pg_boruvka.specs.Shown.{part_in, IsNewDense, edges_in};
+    ghost use Rattle.pg_boruvka.specs.Known.{part_in, edges_in};
+    ghost use Rattle.pg_boruvka.specs.Shown.{IsNewDense};
 
     /// The program of one part of a graph with so many edges. Each vertex is its own label, and no edge is chosen. Takes 16
     /// bytes for each arc, 32 for each vertex of the graph, and one for each edge. `OutOfMemory` comes only where memory is wanting.

@@ -16,13 +16,14 @@ const ZEROS: Vote = Vote {
 
 impl Dense {
     ghost use Rattle.pg_boruvka.specs.Hooks.{is_within};
-    ghost use Rattle.pg_boruvka.specs.Shown.{part_in};
-    ghost use Rattle.pg_boruvka.specs.Calls.{IsMerged, IsTaken};
+    ghost use Rattle.pg_boruvka.specs.Known.{part_in, view_of, known_in, with_winners, with_hooks, with_known, in_stage};
+    ghost use Rattle.pg_boruvka.specs.Calls.{AreMerged, IsTaken};
 
     // Lowers the winners that the piece speaks of in this round: those of own labels first, then those of the others.
     fn merge(&mut self, piece: &Piece)
-        ensures merged { IsMerged self.old piece.now self.new.tables.winners.items }
-        ensures rest { self.new ≡ record self.old { tables = record self.old.tables { winners = self.new.tables.winners } } }
+        ensures merged { AreMerged (view_of self.old) piece.now self.new.tables.winners.items }
+        ensures rest { view_of self.new ≡ with_known (view_of self.old) (with_winners (known_in self.old.tables) self.new.tables.winners.items) }
+        ensures same_idle { self.new.idle ≡ self.old.idle }
     {
         let (first, past) = self.labels_of(self.rank);
         let end = self.n + 1;
@@ -48,8 +49,10 @@ impl Dense {
 
     // Notes a hook whose numbers are in range.
     fn note(&mut self, hook: &Hook)
-        ensures taken { IsTaken self.old hook.now self.new }
-        ensures rest { self.new ≡ record self.old { tables = record self.old.tables { hooks = self.new.tables.hooks } } }
+        ensures taken { IsTaken (view_of self.old) hook.now self.new.tables.hooks.targets.items self.new.tables.hooks.edges.items }
+        ensures rest { view_of self.new ≡ with_known (view_of self.old)
+            (with_hooks (known_in self.old.tables) self.new.tables.hooks.targets.items self.new.tables.hooks.edges.items) }
+        ensures same_idle { self.new.idle ≡ self.old.idle }
     {
         if self.stage == Stage::Hook && self.are_within(hook) {
             self.tables.note(hook);
@@ -59,7 +62,8 @@ impl Dense {
     // Begins a round.
     fn begin_round(&mut self, stage: Stage) -> Next
         ensures again { result ≡ Again }
-        ensures begun { self.new ≡ record self.old { stage = stage; to = 0; at = 0; cast = None; idle = false } }
+        ensures begun { view_of self.new ≡ in_stage (view_of self.old) stage }
+        ensures idle { self.new.idle ≡ false }
     {
         self.stage = stage;
         self.to = 0;
@@ -73,16 +77,17 @@ impl Dense {
 impl Program for Dense {
     ghost use Rattle.std.specs.Prelude.{◌≡◌};
     ghost use Rattle.pg_group.specs.Rolls.{IsZeros};
-    ghost use Rattle.pg_boruvka.specs.Shown.{round_of, IsNewDense, KeepsDense};
+    ghost use Rattle.pg_boruvka.specs.Known.{part_in, view_of, round_of};
+    ghost use Rattle.pg_boruvka.specs.Shown.{IsNewDense, KeepsDense};
     ghost use Rattle.pg_boruvka.specs.Calls.{SentOne, TookIn, DidNoMessage, IsAllSent};
 
     type Body = Message;
 
-    ghost own = { λ d. d.rank.0 };
+    ghost own = { λ d. (part_in d).rank };
 
-    ghost size = { λ d. d.ranks };
+    ghost size = { λ d. (part_in d).ranks };
 
-    ghost round = { round_of };
+    ghost round = { λ d. round_of (view_of d) };
 
     ghost cast = { λ d. d.cast };
 
@@ -94,15 +99,15 @@ impl Program for Dense {
 
     ghost Keeps = { KeepsDense };
 
-    ghost DidItem = { SentOne };
+    ghost DidItem = { λ old sent new more. SentOne (view_of old) sent (view_of new) more };
 
-    ghost DidHandle = { TookIn };
+    ghost DidHandle = { λ old from m new. TookIn (view_of old) from m (view_of new) };
 
-    ghost DidNothing = { DidNoMessage };
+    ghost DidNothing = { λ old new. DidNoMessage (view_of old) (view_of new) };
 
     ghost IsVote = { IsZeros };
 
-    ghost NothingLeft = { IsAllSent };
+    ghost NothingLeft = { λ d. IsAllSent (view_of d) };
 
     fn rank(&self) -> RankNo {
         self.rank

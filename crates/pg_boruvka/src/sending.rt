@@ -1,5 +1,6 @@
 //! Which messages a rank sends in a round, and in which order.
 ghost use Rattle.std.specs.Prelude.{◌≡◌, ℕ, ◌+◌, ◌<◌, ◌≤◌, ◌^◌, IfNone, IfSome};
+ghost use Rattle.pg_base.specs.declared.TheConstants.{MAX_VERTICES};
 ghost use Rattle.pg_group.specs.Ranked.{IsOther};
 
 use crate::Message;
@@ -10,18 +11,15 @@ use pg_base::RankNo;
 
 impl Dense {
     ghost use Rattle.pg_boruvka.specs.declared.messages.Message.{Message};
-    ghost use Rattle.pg_boruvka.specs.Shown.{IsAt, IsPassed};
-    ghost use Rattle.pg_boruvka.specs.Calls.{DidNoMessage};
+    ghost use Rattle.pg_boruvka.specs.Known.{part_in, view_of, passed_to};
+    ghost use Rattle.pg_boruvka.specs.Shown.{IsAt};
+    ghost use Rattle.pg_boruvka.specs.Calls.{IsNext, IsNoneFrom, IsFurther};
 
     // The next message to a rank in this round, from the number `at` on, with its number.
     fn next_to(&self, to: RankNo, at: u32) -> Option<(u32, Message)>
         requires { to.0 < self.now.ranks }
-        ensures from { IfSome result (λ found. at ≤ found.0) }
-        ensures small { IfSome result (λ found. found.0 ≤ self.now.n) }
-        ensures found { IfSome result (λ found. IsAt self.now self.now.stage to.0 found.0 found.1) }
-        ensures next { IfSome result (λ found. (number : ℕ) (m : Message) → at ≤ number → number < found.0
-            → IsAt self.now self.now.stage to.0 number m → ⊥) }
-        ensures none { IfNone result ((number : ℕ) (m : Message) → at ≤ number → IsAt self.now self.now.stage to.0 number m → ⊥) }
+        ensures next { IfSome result (λ found. IsNext (view_of self.now) to.0 at found.0 found.1) }
+        ensures none { IfNone result (IsNoneFrom (view_of self.now) to.0 at) }
     {
         let tables = &self.tables;
         match self.stage {
@@ -45,15 +43,13 @@ impl Dense {
 
     // Goes on to the next message of this round.
     pub(crate) fn seek(&mut self) -> Option<(RankNo, Message)>
-        ensures same { DidNoMessage self.old self.new }
-        ensures other { IfSome result (λ found. IsOther self.old.rank.0 self.old.ranks found.0.0) }
-        ensures found { IfSome result (λ found. IsAt self.new self.new.stage found.0.0 self.new.at found.1) }
+        ensures further { IsFurther (view_of self.old) (view_of self.new) }
+        ensures other { IfSome result (λ found. IsOther (part_in self.old).rank (part_in self.old).ranks found.0.0) }
+        ensures found { IfSome result (λ found. IsAt (view_of self.new) found.0.0 self.new.at found.1) }
         ensures receiver { IfSome result (λ found. self.new.to ≡ found.0.0) }
-        ensures small { IfSome result (λ found. self.new.at ≤ self.new.n) }
-        ensures further { (to number : ℕ) → IsPassed self.old to number → IsPassed self.new to number }
-        ensures passed { (to number : ℕ) (m : Message) → IsOther self.old.rank.0 self.old.ranks to → IsAt self.old self.old.stage to number m
-            → IsPassed self.new to number → IsPassed self.old to number }
-        ensures none { IfNone result (self.new.ranks ≤ self.new.to) }
+        ensures small { IfSome result (λ found. self.new.at ≤ MAX_VERTICES) }
+        ensures none { IfNone result ((part_in self.new).ranks ≤ self.new.to) }
+        ensures same_idle { self.new.idle ≡ self.old.idle }
     {
         while self.to < self.ranks.count() {
             let to = RankNo(self.to);

@@ -49,6 +49,8 @@ pub(crate) struct Tables {
 }
 
 impl Tables {
+    ghost use Rattle.pg_boruvka.specs.Known.{known_in, with_winners, with_hooks};
+
     /// Each vertex is its own label, no label has a key or a hook, and no edge is chosen.
     pub(crate) fn new(
         alloc: Global,
@@ -91,8 +93,8 @@ impl Tables {
         ensures leasts { AreLeasts (locals self.old.arcs.items) (slice_index self.new.labels.items) self.new.keys.items self.new.across.items }
         ensures begun { AreBegun self.new.keys.items first past self.new.winners.items }
         ensures unhooked { AreUnhooked self.new.hooks.targets.items self.new.hooks.edges.items }
-        ensures same_labels { self.new.labels ≡ self.old.labels }
-        ensures same_chosen { self.new.chosen ≡ self.old.chosen }
+        ensures same_labels { self.new.labels.items ≡ self.old.labels.items }
+        ensures same_chosen { self.new.chosen.items ≡ self.old.chosen.items }
     {
         self.hooks.clear();
         gather(
@@ -113,7 +115,7 @@ impl Tables {
     pub(crate) fn lower(&mut self, piece: &Piece, first: u32, past: u32)
         requires { past ≤ length self.old.labels.items }
         ensures lowered { AreLowered (Keys piece.now) first past self.old.winners.items self.new.winners.items }
-        ensures rest { self.new ≡ record self.old { winners = self.new.winners } }
+        ensures rest { known_in self.new ≡ with_winners (known_in self.old) self.new.winners.items }
     {
         winners::lower(&mut self.winners, piece, first as usize, past as usize);
     }
@@ -125,7 +127,7 @@ impl Tables {
         requires edge { hook.now.edge < length self.old.chosen.items }
         ensures noted { IsNoted hook.now self.old.hooks.targets.items self.old.hooks.edges.items self.new.hooks.targets.items self.new.hooks.edges.items }
         ensures still { AreStill self.old.hooks.targets.items self.old.hooks.edges.items → AreStill self.new.hooks.targets.items self.new.hooks.edges.items }
-        ensures rest { self.new ≡ record self.old { hooks = self.new.hooks } }
+        ensures rest { known_in self.new ≡ with_hooks (known_in self.old) self.new.hooks.targets.items self.new.hooks.edges.items }
     {
         self.hooks.note(hook);
     }
@@ -136,7 +138,7 @@ impl Tables {
         ensures own { (l : ℕ) → 1 ≤ l → l < length self.old.keys.items → noted self.new.hooks.targets.items self.new.hooks.edges.items l
             ≡ own_hook_at self.old.keys.items self.old.across.items self.old.winners.items l }
         ensures still { AreStill self.new.hooks.targets.items self.new.hooks.edges.items }
-        ensures rest { self.new ≡ record self.old { hooks = self.new.hooks } }
+        ensures rest { known_in self.new ≡ with_hooks (known_in self.old) self.new.hooks.targets.items self.new.hooks.edges.items }
     {
         self.hooks.clear();
         self.hooks
@@ -149,7 +151,7 @@ impl Tables {
         ensures same_edges { length self.new.chosen.items ≡ length self.old.chosen.items }
         ensures moved { AreMoved self.old.hooks.targets.items self.old.labels.items self.new.labels.items }
         ensures same_count { length self.new.labels.items ≡ length self.old.labels.items }
-        ensures same_arcs { self.new.arcs ≡ self.old.arcs }
+        ensures same_arcs { self.new.arcs.items ≡ self.old.arcs.items }
     {
         chosen::mark(&mut self.chosen, &self.hooks.edges);
         point(&mut self.hooks.targets);
