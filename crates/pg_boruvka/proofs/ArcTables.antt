@@ -1,8 +1,8 @@
 -- The arcs of a part, pushed place after place.
-use Rattle.std.proofs.Common.{◌≡◌, ℕ, zero, suc, ◌+◌, ◌-◌, ◌*◌, ◌<◌, ◌≤◌, List, [], ◌∷◌, ◌++◌, length, All, get_or, map, take, drop, refl, sym, ap, ◌∙◌, subst, arith}
+use Rattle.std.proofs.Common.{◌≡◌, ℕ, zero, suc, ◌+◌, ◌-◌, ◌*◌, ◌^◌, ◌<◌, ◌≤◌, List, [], ◌∷◌, ◌++◌, length, All, get_or, map, take, drop, refl, sym, ap, ◌∙◌, subst, arith}
 use Rattle.std.specs.Prelude.{slice_index, slice_range}
 use Rattle.std.proofs.lemmas.List.{map-append, append_assoc, take_more, take_all}
-use Rattle.std.proofs.lemmas.List.Elements.{All-map, All-append, All-take, All-drop}
+use Rattle.std.proofs.lemmas.List.Elements.{All-map, All-append, All-take, All-drop, All-push}
 use Rattle.pg_base.specs.Keyed.{row_of}
 use Rattle.pg_adj.specs.declared.arcs.Arc.{Arc}
 use Rattle.pg_adj.specs.Portions.{Portion, IsOwnArc}
@@ -13,6 +13,10 @@ use Rattle.pg_boruvka.specs.Portions.{local_of, arcs_below}
 
 abbrev pub dense_of : ℕ → Arc → DenseArc
 dense_of v a = record { from = v; to = a.to.0; weight = a.w; edge = a.edge }
+
+-- Weights as they lie in memory.
+abbrev pub AreSmall : List DenseArc → Type 0
+AreSmall arcs = All (λ a. a.weight < 2 ^ 32) arcs
 
 -- The first arcs of a row are pushed.
 abbrev pub ArePushed : ℕ → List DenseArc → List DenseArc → List Arc → ℕ → Type 0
@@ -59,13 +63,23 @@ row_locals p v place i old now row end is v_is row_is =
 pub record ArePlaced (p : Portion) (arcs : List DenseArc) (place : ℕ) : Type 0 where
   pub locals_of : locals arcs ≡ arcs_below p place
   pub ends : (edges : ℕ) → All (λ (a : Arc). a.edge < edges) p.arcs → All (IsInTables (p.n + 1) edges) arcs
+  pub small : AreSmall arcs
 
 pub placed_more : (p : Portion) (old now : List DenseArc) (place : ℕ) → ArePlaced p old place
     → locals now ≡ locals old ++ map (local_of (slice_index p.vertices place)) (row_of p.bounds p.arcs place)
     → ((edges : ℕ) → All (λ (a : Arc). a.edge < edges) p.arcs → All (IsInTables (p.n + 1) edges) old → All (IsInTables (p.n + 1) edges) now)
+    → (AreSmall old → AreSmall now)
     → ArePlaced p now (place + 1)
-placed_more p old now place is pushed ends = record {
+placed_more p old now place is pushed ends small = record {
     locals_of = pushed ∙ ap (λ (xs : List LocalArc). xs ++ map (local_of (slice_index p.vertices place)) (row_of p.bounds p.arcs place)) is.locals_of
         ∙ (let next : suc place ≡ place + 1 = omega arith in ap (arcs_below p) next);
     ends = λ edges below. ends edges below (is.ends edges below);
+    small = small is.small;
+  }
+
+pub pushing_more : (v : ℕ) (old now new : List DenseArc) (arc : DenseArc) (row : List Arc) (i : ℕ) (d : Arc) → i < length row → arc ≡ dense_of v (get_or row i d) → arc.weight < 2 ^ 32 → new ≡ now ++ arc ∷ []
+    → ArePushed v old now row i → (AreSmall old → AreSmall now) → record { pushed : ArePushed v old new row (i + 1); small : AreSmall old → AreSmall new }
+pushing_more v old now new arc row i d h arc_is light pushed is small = record {
+    pushed = pushed ∙ ap (λ (a : DenseArc). now ++ a ∷ []) arc_is ∙ pushed_more v old now row i d h is;
+    small = λ before. subst AreSmall (sym pushed) (All-push (λ a. a.weight < 2 ^ 32) now arc (small before) light);
   }
