@@ -19,6 +19,10 @@ pub mod Stepping
 pub mod ExampleRun
 pub mod Handled
 pub mod Taking
+pub mod DueMessages
+pub mod Passing
+pub mod Regular
+pub mod Merging
 pub mod PointerWalks
 pub mod PointerPairs
 pub mod LabelMoves

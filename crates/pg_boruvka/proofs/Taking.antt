@@ -3,7 +3,6 @@ use Rattle.std.proofs.Common.{◌≡◌, ◌≢◌, ◌==◌, ◌⊎◌, ℕ, ze
 use Rattle.std.specs.Prelude.{min, slice_index, if◌then◌else◌}
 use Rattle.std.proofs.lemmas.Bool.{cases_eq, cases_lt, eq-eqb, ne_eqb, cond-true, cond-false, cases_Bool, true≢false}
 use Rattle.std.proofs.lemmas.List.Elements.{Contains-append_left, Contains-append_right, Contains-append_cases}
-use Rattle.pg_base.specs.declared.TheConstants.{MAX_VERTICES}
 use Rattle.pg_group.specs.declared.messages.Body.{Body}
 use Rattle.pg_group.specs.declared.messages.Body.TheVariants.{Item, Mark}
 use Rattle.pg_group.specs.Ranked.{IsOther, list_at, append_at}
@@ -121,15 +120,15 @@ module _ (part : Part) (handled : List (List (Body Message))) (label : ℕ → �
       (subst (λ (x : Message). Grown x (items_in (3 * p + 2) handled) (items_in (3 * p + 2) more)) is (items_grown (3 * p + 2) handled from m here at)) within)
 
 -- What is the same in every message that is handled.
-module _ (handled sent : List (List (Body Message))) (v : View) (from : ℕ) (m : Message) (rank : v.part.rank < v.part.ranks) (other : IsOther v.part.rank v.part.ranks from) (keeps : HasChosen handled sent v) where
+module _ (far : ℕ) (handled sent : List (List (Body Message))) (v : View) (from : ℕ) (m : Message) (rank : v.part.rank < v.part.ranks) (other : IsOther v.part.rank v.part.ranks from) (keeps : HasChosen far handled sent v) where
   pub in_here : from < length handled
   in_here = omega (arith, other.0, keeps.local.counted.from_each)
 
   pub marks_here : v.ended ≡ false → marks (list_at handled from) ≡ 3 * v.phase + stage_no v.stage
   marks_here running = keeps.local.counted.running running from other
 
-  pub local_more : LocalDense MAX_VERTICES v.part (append_at handled from (Item m)) sent (state_of v)
-  local_more = handling_keeps MAX_VERTICES v.part handled sent (state_of v) from m other keeps.local
+  pub local_more : LocalDense far v.part (append_at handled from (Item m)) sent (state_of v)
+  local_more = handling_keeps far v.part handled sent (state_of v) from m other keeps.local
 
   pub alone_more : list_at (append_at handled from (Item m)) v.part.rank ≡ []
   alone_more = list_at-append_else handled from v.part.rank (Item m) (λ e. other.1 (sym e)) ∙ keeps.alone
@@ -137,8 +136,8 @@ module _ (handled sent : List (List (Body Message))) (v : View) (from : ℕ) (m 
 vertex_between : (n l : ℕ) → IsVertex n l → IsBetween 1 (n + 1) l
 vertex_between n l vertex = record { from = vertex.first; before = omega (arith, vertex.last) }
 
-module _ (handled sent : List (List (Body Message))) (v : View) (from : ℕ) (piece : Piece) (winners : List ℕ) (rank : v.part.rank < v.part.ranks) (other : IsOther v.part.rank v.part.ranks from)
-    (merged : AreMerged v piece winners) (keeps : HasChosen handled sent v) where
+module _ (far : ℕ) (handled sent : List (List (Body Message))) (v : View) (from : ℕ) (piece : Piece) (winners : List ℕ) (rank : v.part.rank < v.part.ranks) (other : IsOther v.part.rank v.part.ranks from)
+    (merged : AreMerged v piece winners) (keeps : HasChosen far handled sent v) where
   abbrev m : Message
   m = Keys piece
 
@@ -148,38 +147,38 @@ module _ (handled sent : List (List (Body Message))) (v : View) (from : ℕ) (pi
   merged_winners : (s : Stage) → v.stage ≡ s → v.ended ≡ false → (l : ℕ) → IsVertex v.part.n l → IsOwnLabel v.part l ⊎ (IsOwnLabel v.part l → ⊥)
       → slice_index winners l ≡ winner v.part (append_at handled from (Item m)) (label_of v) v.phase l
   merged_winners stage.Up is running l vertex (inl own) =
-      let at : marks (list_at handled from) ≡ 3 * v.phase = marks_here handled sent v from m rank other keeps running ∙ (ap (λ (s : Stage). 3 * v.phase + stage_no s) is ∙ omega arith) in
+      let at : marks (list_at handled from) ≡ 3 * v.phase = marks_here far handled sent v from m rank other keeps running ∙ (ap (λ (s : Stage). 3 * v.phase + stage_no s) is ∙ omega arith) in
       merged.counting l (vertex_between v.part.n l vertex) (subst (λ (s : Stage). Counts v.part s l) (sym is) own)
       ∙ (ap (λ (x : ℕ). min x (given_key l m)) (keeps.winners running l vertex)
-      ∙ sym (up_own v.part handled (label_of v) v.phase from m rank (in_here handled sent v from m rank other keeps) l at own))
+      ∙ sym (up_own v.part handled (label_of v) v.phase from m rank (in_here far handled sent v from m rank other keeps) l at own))
   merged_winners stage.Up is running l vertex (inr apart) =
-      let at : marks (list_at handled from) ≡ 3 * v.phase = marks_here handled sent v from m rank other keeps running ∙ (ap (λ (s : Stage). 3 * v.phase + stage_no s) is ∙ omega arith) in
+      let at : marks (list_at handled from) ≡ 3 * v.phase = marks_here far handled sent v from m rank other keeps running ∙ (ap (λ (s : Stage). 3 * v.phase + stage_no s) is ∙ omega arith) in
       merged.others l (λ c. apart (subst (λ (s : Stage). Counts v.part s l) is c))
       ∙ (keeps.winners running l vertex
-      ∙ sym (up_other v.part handled (label_of v) v.phase from m rank (in_here handled sent v from m rank other keeps) l at vertex apart))
+      ∙ sym (up_other v.part handled (label_of v) v.phase from m rank (in_here far handled sent v from m rank other keeps) l at vertex apart))
   merged_winners stage.Down is running l vertex (inl own) =
-      let at : marks (list_at handled from) ≡ 3 * v.phase + 1 = marks_here handled sent v from m rank other keeps running ∙ ap (λ (s : Stage). 3 * v.phase + stage_no s) is in
+      let at : marks (list_at handled from) ≡ 3 * v.phase + 1 = marks_here far handled sent v from m rank other keeps running ∙ ap (λ (s : Stage). 3 * v.phase + stage_no s) is in
       merged.others l (λ c. (subst (λ (s : Stage). Counts v.part s l) is c) own)
       ∙ (keeps.winners running l vertex
-      ∙ sym (down_own v.part handled (label_of v) v.phase from m rank (in_here handled sent v from m rank other keeps) l at own))
+      ∙ sym (down_own v.part handled (label_of v) v.phase from m rank (in_here far handled sent v from m rank other keeps) l at own))
   merged_winners stage.Down is running l vertex (inr apart) =
-      let at : marks (list_at handled from) ≡ 3 * v.phase + 1 = marks_here handled sent v from m rank other keeps running ∙ ap (λ (s : Stage). 3 * v.phase + stage_no s) is in
+      let at : marks (list_at handled from) ≡ 3 * v.phase + 1 = marks_here far handled sent v from m rank other keeps running ∙ ap (λ (s : Stage). 3 * v.phase + stage_no s) is in
       merged.counting l (vertex_between v.part.n l vertex) (subst (λ (s : Stage). Counts v.part s l) (sym is) apart)
       ∙ (ap (λ (x : ℕ). min x (given_key l m)) (keeps.winners running l vertex)
-      ∙ sym (down_other v.part handled (label_of v) v.phase from m rank (in_here handled sent v from m rank other keeps) l at vertex apart))
+      ∙ sym (down_other v.part handled (label_of v) v.phase from m rank (in_here far handled sent v from m rank other keeps) l at vertex apart))
   merged_winners stage.Hook is running l vertex any =
-      let at : marks (list_at handled from) ≡ 3 * v.phase + 2 = marks_here handled sent v from m rank other keeps running ∙ ap (λ (s : Stage). 3 * v.phase + stage_no s) is in
+      let at : marks (list_at handled from) ≡ 3 * v.phase + 2 = marks_here far handled sent v from m rank other keeps running ∙ ap (λ (s : Stage). 3 * v.phase + stage_no s) is in
       merged.others l (λ c. subst (λ (s : Stage). Counts v.part s l) is c)
       ∙ (keeps.winners running l vertex
-      ∙ sym (hook_same v.part handled (label_of v) v.phase from m rank (in_here handled sent v from m rank other keeps) l at vertex))
+      ∙ sym (hook_same v.part handled (label_of v) v.phase from m rank (in_here far handled sent v from m rank other keeps) l at vertex))
 
   not_keys : (h : Hook) → m ≡ Hooked h → ⊥
   not_keys h e = cc
 
   merged_hooks : v.ended ≡ false → v.stage ≡ stage.Hook → AreNotedOf (hooks_of v.part (append_at handled from (Item m)) (label_of v) v.phase) new
   merged_hooks running is =
-      let at : marks (list_at handled from) ≡ 3 * v.phase + 2 = marks_here handled sent v from m rank other keeps running ∙ ap (λ (s : Stage). 3 * v.phase + stage_no s) is in
-      let here = in_here handled sent v from m rank other keeps in
+      let at : marks (list_at handled from) ≡ 3 * v.phase + 2 = marks_here far handled sent v from m rank other keeps running ∙ ap (λ (s : Stage). 3 * v.phase + stage_no s) is in
+      let here = in_here far handled sent v from m rank other keeps in
       let was = keeps.hooks running is in
       record {
         some = λ l h e. hooks_of_stay v.part handled (label_of v) v.phase from m rank here h at (was.some l h e);
@@ -216,11 +215,11 @@ module _ (handled sent : List (List (Body Message))) (v : View) (from : ℕ) (pi
         is = at.is;
       }
 
-  pub merged_keeps : HasChosen (append_at handled from (Item m)) sent new
+  pub merged_keeps : HasChosen far (append_at handled from (Item m)) sent new
   merged_keeps = record {
-    local = local_more handled sent v from m rank other keeps;
+    local = local_more far handled sent v from m rank other keeps;
     gathered = record { arcs = keeps.gathered.arcs; leasts = keeps.gathered.leasts };
-    alone = alone_more handled sent v from m rank other keeps;
+    alone = alone_more far handled sent v from m rank other keeps;
     running = keeps.running;
     winners = λ running l vertex. merged_winners v.stage refl running l vertex (own_cases v.part l);
     hooks = merged_hooks;
@@ -252,8 +251,8 @@ noted_source targets edges l h e = ⊎_elim
     (sym (cond-false (slice_index edges l == NO_EDGE) None (Some (record { source = l; target = slice_index targets l; edge = slice_index edges l })) (ne_eqb (slice_index edges l) NO_EDGE some)) ∙ e))))
     (cases_eq (slice_index edges l) NO_EDGE)
 
-module _ (handled sent : List (List (Body Message))) (v : View) (from : ℕ) (h : Hook) (targets edges : List ℕ) (rank : v.part.rank < v.part.ranks) (other : IsOther v.part.rank v.part.ranks from)
-    (taken : IsTaken v h targets edges) (keeps : HasChosen handled sent v) where
+module _ (far : ℕ) (handled sent : List (List (Body Message))) (v : View) (from : ℕ) (h : Hook) (targets edges : List ℕ) (rank : v.part.rank < v.part.ranks) (other : IsOther v.part.rank v.part.ranks from)
+    (taken : IsTaken v h targets edges) (keeps : HasChosen far handled sent v) where
   abbrev g : Message
   g = Hooked h
 
@@ -273,25 +272,25 @@ module _ (handled sent : List (List (Body Message))) (v : View) (from : ℕ) (h 
   taken_winners : (s : Stage) → v.stage ≡ s → v.ended ≡ false → (l : ℕ) → IsVertex v.part.n l → IsOwnLabel v.part l ⊎ (IsOwnLabel v.part l → ⊥)
       → winner v.part handled (label_of v) v.phase l ≡ winner v.part (append_at handled from (Item g)) (label_of v) v.phase l
   taken_winners stage.Up is running l vertex (inl own) =
-      let at : marks (list_at handled from) ≡ 3 * v.phase = marks_here handled sent v from g rank other keeps running ∙ (ap (λ (s : Stage). 3 * v.phase + stage_no s) is ∙ omega arith) in
-      sym (up_own v.part handled (label_of v) v.phase from g rank (in_here handled sent v from g rank other keeps) l at own ∙ min_small (winner v.part handled (label_of v) v.phase l) (winner_small l vertex))
+      let at : marks (list_at handled from) ≡ 3 * v.phase = marks_here far handled sent v from g rank other keeps running ∙ (ap (λ (s : Stage). 3 * v.phase + stage_no s) is ∙ omega arith) in
+      sym (up_own v.part handled (label_of v) v.phase from g rank (in_here far handled sent v from g rank other keeps) l at own ∙ min_small (winner v.part handled (label_of v) v.phase l) (winner_small l vertex))
   taken_winners stage.Up is running l vertex (inr apart) =
-      let at : marks (list_at handled from) ≡ 3 * v.phase = marks_here handled sent v from g rank other keeps running ∙ (ap (λ (s : Stage). 3 * v.phase + stage_no s) is ∙ omega arith) in
-      sym (up_other v.part handled (label_of v) v.phase from g rank (in_here handled sent v from g rank other keeps) l at vertex apart)
+      let at : marks (list_at handled from) ≡ 3 * v.phase = marks_here far handled sent v from g rank other keeps running ∙ (ap (λ (s : Stage). 3 * v.phase + stage_no s) is ∙ omega arith) in
+      sym (up_other v.part handled (label_of v) v.phase from g rank (in_here far handled sent v from g rank other keeps) l at vertex apart)
   taken_winners stage.Down is running l vertex (inl own) =
-      let at : marks (list_at handled from) ≡ 3 * v.phase + 1 = marks_here handled sent v from g rank other keeps running ∙ ap (λ (s : Stage). 3 * v.phase + stage_no s) is in
-      sym (down_own v.part handled (label_of v) v.phase from g rank (in_here handled sent v from g rank other keeps) l at own)
+      let at : marks (list_at handled from) ≡ 3 * v.phase + 1 = marks_here far handled sent v from g rank other keeps running ∙ ap (λ (s : Stage). 3 * v.phase + stage_no s) is in
+      sym (down_own v.part handled (label_of v) v.phase from g rank (in_here far handled sent v from g rank other keeps) l at own)
   taken_winners stage.Down is running l vertex (inr apart) =
-      let at : marks (list_at handled from) ≡ 3 * v.phase + 1 = marks_here handled sent v from g rank other keeps running ∙ ap (λ (s : Stage). 3 * v.phase + stage_no s) is in
-      sym (down_other v.part handled (label_of v) v.phase from g rank (in_here handled sent v from g rank other keeps) l at vertex apart ∙ min_small (winner v.part handled (label_of v) v.phase l) (winner_small l vertex))
+      let at : marks (list_at handled from) ≡ 3 * v.phase + 1 = marks_here far handled sent v from g rank other keeps running ∙ ap (λ (s : Stage). 3 * v.phase + stage_no s) is in
+      sym (down_other v.part handled (label_of v) v.phase from g rank (in_here far handled sent v from g rank other keeps) l at vertex apart ∙ min_small (winner v.part handled (label_of v) v.phase l) (winner_small l vertex))
   taken_winners stage.Hook is running l vertex any =
-      let at : marks (list_at handled from) ≡ 3 * v.phase + 2 = marks_here handled sent v from g rank other keeps running ∙ ap (λ (s : Stage). 3 * v.phase + stage_no s) is in
-      sym (hook_same v.part handled (label_of v) v.phase from g rank (in_here handled sent v from g rank other keeps) l at vertex)
+      let at : marks (list_at handled from) ≡ 3 * v.phase + 2 = marks_here far handled sent v from g rank other keeps running ∙ ap (λ (s : Stage). 3 * v.phase + stage_no s) is in
+      sym (hook_same v.part handled (label_of v) v.phase from g rank (in_here far handled sent v from g rank other keeps) l at vertex)
 
   taken_hooks : (within : Bool) → is_within v.part h ≡ within → v.ended ≡ false → v.stage ≡ stage.Hook → AreNotedOf (hooks_of v.part (append_at handled from (Item g)) (label_of v) v.phase) after
   taken_hooks true within running is =
-      let at : marks (list_at handled from) ≡ 3 * v.phase + 2 = marks_here handled sent v from g rank other keeps running ∙ ap (λ (s : Stage). 3 * v.phase + stage_no s) is in
-      let here = in_here handled sent v from g rank other keeps in
+      let at : marks (list_at handled from) ≡ 3 * v.phase + 2 = marks_here far handled sent v from g rank other keeps running ∙ ap (λ (s : Stage). 3 * v.phase + stage_no s) is in
+      let here = in_here far handled sent v from g rank other keeps in
       let was = keeps.hooks running is in
       let note = taken.within is within in
       let joins : Contains (hooks_of v.part (append_at handled from (Item g)) (label_of v) v.phase) h = hook_of_joins v.part handled (label_of v) v.phase from g rank here h refl within at in
@@ -323,8 +322,8 @@ module _ (handled sent : List (List (Body Message))) (v : View) (from : ℕ) (h 
         no_hook (noted targets edges h.source) (record { source = h.source; target = slice_index v.known.targets h.source; edge = slice_index v.known.edges h.source })
         ((taken.within is within).later later ∙ old) (ap (noted targets edges) (sym same) ∙ e)
   taken_hooks false within running is =
-      let at : marks (list_at handled from) ≡ 3 * v.phase + 2 = marks_here handled sent v from g rank other keeps running ∙ ap (λ (s : Stage). 3 * v.phase + stage_no s) is in
-      let here = in_here handled sent v from g rank other keeps in
+      let at : marks (list_at handled from) ≡ 3 * v.phase + 2 = marks_here far handled sent v from g rank other keeps running ∙ ap (λ (s : Stage). 3 * v.phase + stage_no s) is in
+      let here = in_here far handled sent v from g rank other keeps in
       let was = keeps.hooks running is in
       let same = taken.ignored within in
       record {
@@ -348,11 +347,11 @@ module _ (handled sent : List (List (Body Message))) (v : View) (from : ℕ) (h 
   before_same stage.Down to number o at = at
   before_same stage.Hook to number o at = record { hook = at.hook; label = at.label; own = at.own; is = at.is }
 
-  pub taken_keeps : HasChosen (append_at handled from (Item g)) sent after
+  pub taken_keeps : HasChosen far (append_at handled from (Item g)) sent after
   taken_keeps = record {
-    local = local_more handled sent v from g rank other keeps;
+    local = local_more far handled sent v from g rank other keeps;
     gathered = record { arcs = keeps.gathered.arcs; leasts = keeps.gathered.leasts };
-    alone = alone_more handled sent v from g rank other keeps;
+    alone = alone_more far handled sent v from g rank other keeps;
     running = keeps.running;
     winners = λ running l vertex. keeps.winners running l vertex ∙ taken_winners v.stage refl running l vertex (own_cases v.part l);
     hooks = taken_hooks (is_within v.part h) refl;

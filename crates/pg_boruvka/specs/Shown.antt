@@ -89,10 +89,10 @@ pub record IsNewDense (d : Dense) : Type 0 where
   pub view : IsNewView (view_of d)
   pub idle : d.idle ≡ false
 
--- The law of Borůvka's method holds over what was handled and sent. The winners are those of the keys that were handled, the
+-- The law of Borůvka's method holds over what was handled and sent; labels move `far` steps. The winners are those of the keys that were handled, the
 -- noted hooks those that the phase has so far, and the messages that were passed are sent.
-pub record HasChosen (handled sent : List (List (Body Message))) (v : View) : Type 0 where
-  pub local : LocalDense MAX_VERTICES v.part handled sent (state_of v)
+pub record HasChosen (far : ℕ) (handled sent : List (List (Body Message))) (v : View) : Type 0 where
+  pub local : LocalDense far v.part handled sent (state_of v)
   pub gathered : IsGathered v
   pub alone : list_at handled v.part.rank ≡ []
   pub running : v.cast ≡ None → v.ended ≡ false
@@ -103,4 +103,4 @@ pub record HasChosen (handled sent : List (List (Body Message))) (v : View) : Ty
 -- The part stays.
 pub record KeepsDense (start : Dense) (handled sent : List (List (Body Message))) (d : Dense) : Type 0 where
   pub part : part_in d ≡ part_in start
-  pub chosen : HasChosen handled sent (view_of d)
+  pub chosen : HasChosen MAX_VERTICES handled sent (view_of d)

@@ -29,7 +29,7 @@ impl Dense {
                 Some((number, Message::Piece(piece)))
             }
             Stage::Down => {
-                let (first, past) = self.labels_of(self.rank);
+                let (first, past) = self.own_labels();
                 let (number, piece) = next_piece(&tables.winners, first, past, at)?;
                 Some((number, Message::Piece(piece)))
             }

@@ -149,7 +149,7 @@ impl Tables {
     pub(crate) fn end_phase(&mut self)
         ensures marked { AreMarked self.old.hooks.edges.items self.old.chosen.items self.new.chosen.items }
         ensures same_edges { length self.new.chosen.items ≡ length self.old.chosen.items }
-        ensures moved { AreMoved self.old.hooks.targets.items self.old.labels.items self.new.labels.items }
+        ensures moved { AreMoved MAX_VERTICES self.old.hooks.targets.items self.old.labels.items self.new.labels.items }
         ensures same_count { length self.new.labels.items ≡ length self.old.labels.items }
         ensures same_arcs { self.new.arcs.items ≡ self.old.arcs.items }
     {
