@@ -28,3 +28,4 @@ pub mod PointerPairs
 pub mod LabelMoves
 pub mod ArcTables
 pub mod ChosenMarks
+pub mod PointerMoves
