@@ -1,6 +1,6 @@
 -- The arcs of a part, pushed place after place.
-use Rattle.std.proofs.Common.{◌≡◌, ℕ, zero, suc, ◌+◌, ◌-◌, ◌*◌, ◌^◌, ◌<◌, ◌≤◌, List, [], ◌∷◌, ◌++◌, length, All, get_or, map, take, drop, refl, sym, ap, ◌∙◌, subst, arith}
-use Rattle.std.specs.Prelude.{slice_index, slice_range}
+use Rattle.std.proofs.Common.{◌≡◌, ℕ, suc, ◌+◌, ◌-◌, ◌^◌, ◌<◌, ◌≤◌, List, [], ◌∷◌, ◌++◌, length, All, get_or, map, take, drop, refl, sym, ap, ◌∙◌, subst, arith}
+use Rattle.std.specs.Prelude.{slice_index}
 use Rattle.std.proofs.lemmas.List.{map-append, append_assoc, take_more, take_all}
 use Rattle.std.proofs.lemmas.List.Elements.{All-map, All-append, All-take, All-drop, All-push}
 use Rattle.pg_base.specs.Keyed.{row_of}
@@ -71,15 +71,15 @@ pub placed_more : (p : Portion) (old now : List DenseArc) (place : ℕ) → AreP
     → (AreSmall old → AreSmall now)
     → ArePlaced p now (place + 1)
 placed_more p old now place is pushed ends small = record {
-    locals_of = pushed ∙ ap (λ (xs : List LocalArc). xs ++ map (local_of (slice_index p.vertices place)) (row_of p.bounds p.arcs place)) is.locals_of
-        ∙ (let next : suc place ≡ place + 1 = omega arith in ap (arcs_below p) next);
-    ends = λ edges below. ends edges below (is.ends edges below);
-    small = small is.small;
-  }
+  locals_of = pushed ∙ ap (λ (xs : List LocalArc). xs ++ map (local_of (slice_index p.vertices place)) (row_of p.bounds p.arcs place)) is.locals_of
+      ∙ (let next : suc place ≡ place + 1 = omega arith in ap (arcs_below p) next);
+  ends = λ edges below. ends edges below (is.ends edges below);
+  small = small is.small;
+}
 
 pub pushing_more : (v : ℕ) (old now new : List DenseArc) (arc : DenseArc) (row : List Arc) (i : ℕ) (d : Arc) → i < length row → arc ≡ dense_of v (get_or row i d) → arc.weight < 2 ^ 32 → new ≡ now ++ arc ∷ []
     → ArePushed v old now row i → (AreSmall old → AreSmall now) → record { pushed : ArePushed v old new row (i + 1); small : AreSmall old → AreSmall new }
 pushing_more v old now new arc row i d h arc_is light pushed is small = record {
-    pushed = pushed ∙ ap (λ (a : DenseArc). now ++ a ∷ []) arc_is ∙ pushed_more v old now row i d h is;
-    small = λ before. subst AreSmall (sym pushed) (All-push (λ a. a.weight < 2 ^ 32) now arc (small before) light);
-  }
+  pushed = pushed ∙ ap (λ (a : DenseArc). now ++ a ∷ []) arc_is ∙ pushed_more v old now row i d h is;
+  small = λ before. subst AreSmall (sym pushed) (All-push (λ a. a.weight < 2 ^ 32) now arc (small before) light);
+}

@@ -1,5 +1,5 @@
 -- Labels that are moved along shortened pointers are where the hooks' pointers end.
-use Rattle.std.proofs.Common.{◌≡◌, ℕ, zero, suc, ◌<◌, List, length, All, get_or, map, refl, sym, ap, ◌∙◌, subst, arith}
+use Rattle.std.proofs.Common.{◌≡◌, ℕ, zero, suc, ◌<◌, List, length, All, map, refl, sym, ap, ◌∙◌}
 use Rattle.std.specs.Prelude.{slice_index}
 use Rattle.std.proofs.lemmas.List.{get_or-map}
 use Rattle.pg_forest.specs.Phases.{point}
@@ -22,7 +22,6 @@ module _ (far : ℕ) (targets pointers shortened old new : List ℕ)
     (ends : (l : ℕ) → l < length pointers → slice_index pointers (walk (slice_index pointers) far l) ≡ walk (slice_index pointers) far l → slice_index shortened l ≡ walk (slice_index pointers) far l)
     (labels : All (λ l. l < length pointers) old)
     (moved : new ≡ map (slice_index shortened) old) where
-
   inside : (l : ℕ) → l < length pointers → slice_index pointers l < length pointers
   inside l h = within l 0 h
 

@@ -1,4 +1,3 @@
-use Rattle.std.proofs.Common.{◌<◌, ◌^◌, All}
 use Rattle.pg_boruvka.proofs.ArcTables.{ArePushed, AreSmall}
 use Rattle.pg_boruvka.proofs.arcs.push_arcs.Given as goal
 

@@ -1,4 +1,4 @@
-use Rattle.std.proofs.Common.{◌≡◌, ◌<◌, ◌≤◌, length, get_or, arith}
+use Rattle.std.proofs.Common.{◌≤◌, length, get_or, arith}
 use Rattle.pg_boruvka.proofs.ChosenMarks.{marked_more, marked_past, marked_all}
 use Rattle.pg_boruvka.proofs.chosen.mark.Goals as goal
 use Rattle.pg_boruvka.proofs.chosen.mark.Goals.{then-edge, else-edge}

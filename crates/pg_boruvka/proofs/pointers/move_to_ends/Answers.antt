@@ -1,4 +1,4 @@
-use Rattle.std.proofs.Common.{◌<◌, All, length, subst, sym}
+use Rattle.std.proofs.Common.{◌<◌, All, subst, sym}
 use Rattle.pg_base.specs.declared.TheConstants.{MAX_VERTICES}
 use Rattle.pg_boruvka.proofs.PointerMoves.{moved_along}
 use Rattle.pg_boruvka.proofs.pointers.move_to_ends.Goals as goal
