@@ -29,3 +29,6 @@ pub mod RoundsEnding
 pub mod PointerWalks
 pub mod PointerPairs
 pub mod LabelMoves
+pub mod ArcTables
+pub mod ChosenMarks
+pub mod PointerMoves

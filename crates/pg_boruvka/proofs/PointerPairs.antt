@@ -1,5 +1,5 @@
 -- Of two labels that hook to each other the lesser points to itself.
-use Rattle.std.proofs.Common.{◌≡◌, ◌≢◌, ◌⊎◌, ℕ, suc, ◌+◌, ◌<◌, ◌≤◌, Bool, true, false, ◌&&◌, eqb, ltb, List, length, All, refl, sym, ap, ◌∙◌, subst, inl, inr, arith, below_more, get_or-set_same, get_or-set_other}
+use Rattle.std.proofs.Common.{◌≡◌, ◌≢◌, ℕ, ◌+◌, ◌<◌, ◌≤◌, Bool, true, false, ◌&&◌, eqb, ltb, List, length, All, refl, sym, ap, ◌∙◌, arith, below_more, get_or-set_same, get_or-set_other}
 use Rattle.std.specs.Prelude.{slice_index, slice_set}
 use Rattle.std.proofs.lemmas.Bool.{cond-true, cond-false, and_parts, and_from, eqb-true, ltb-true, eq-eqb, lt-ltb}
 use Rattle.std.proofs.lemmas.List.{length-set}
@@ -29,11 +29,11 @@ pub record IsPointing (old now : List ℕ) (label : ℕ) : Type 0 where
 
 pub pointing_none : (old : List ℕ) → All (λ p. p < length old) old → IsPointing old old 0
 pointing_none old within = record {
-    same_count = refl;
-    within = within;
-    done = λ l below. absurd (omega arith);
-    left = λ l above. refl;
-  }
+  same_count = refl;
+  within = within;
+  done = λ l below. absurd (omega arith);
+  left = λ l above. refl;
+}
 
 -- Where a hook leads to a greater label, that label's hook still stands there.
 across : (old now : List ℕ) (label : ℕ) → IsPointing old now label → label < slice_index old label → slice_index now (slice_index now label) ≡ slice_index old (slice_index old label)
@@ -50,8 +50,8 @@ pointing_more old now label h is less back =
       same_count = length-set now label label ∙ is.same_count;
       within = All-set (λ p. p < length old) now label label h is.within;
       done = below_more (λ l. slice_index (slice_set now label label) l ≡ point (slice_index old) l) label
-        (λ l below. let apart : l ≢ label = omega arith in get_or-set_other now label l label 0 apart ∙ is.done l below)
-        (get_or-set_same now label label 0 inside ∙ sym (lesser (slice_index old) label (sym (across old now label is less_old) ∙ back) less_old));
+          (λ l below. let apart : l ≢ label = omega arith in get_or-set_other now label l label 0 apart ∙ is.done l below)
+          (get_or-set_same now label label 0 inside ∙ sym (lesser (slice_index old) label (sym (across old now label is less_old) ∙ back) less_old));
       left = λ l above. let apart : l ≢ label = omega arith in get_or-set_other now label l label 0 apart ∙ is.left l (omega arith);
     }
 
@@ -62,7 +62,7 @@ pointing_same old now label is apart =
       same_count = is.same_count;
       within = is.within;
       done = below_more (λ l. slice_index now l ≡ point (slice_index old) l) label is.done
-        (here ∙ sym (other (slice_index old) label
+          (here ∙ sym (other (slice_index old) label
           (λ less back. apart (omega (arith, here, less)) (across old now label is less ∙ back))));
       left = λ l above. is.left l (omega arith);
     }

@@ -114,11 +114,11 @@ after_reached old now label next after h within doubled is_next is_after =
 
 pub doubled_more : (old now : List ℕ) (label after : ℕ) → label < length now → AreDoubled old now label → IsReached old 2 label after → AreDoubled old (slice_set now label after) (label + 1)
 doubled_more old now label after h doubled reached = record {
-    done = below_more (λ l. l < length old → IsReached old 2 l (slice_index (slice_set now label after) l)) label
+  done = below_more (λ l. l < length old → IsReached old 2 l (slice_index (slice_set now label after) l)) label
       (λ l below inside. let other : l ≢ label = omega arith in subst (IsReached old 2 l) (sym (get_or-set_other now label l after 0 other)) (doubled.done l below inside))
       (λ inside. subst (IsReached old 2 label) (sym (get_or-set_same now label after 0 h)) reached);
-    left = λ l above. let other : l ≢ label = omega arith in get_or-set_other now label l after 0 other ∙ doubled.left l (omega arith);
-  }
+  left = λ l above. let other : l ≢ label = omega arith in get_or-set_other now label l after 0 other ∙ doubled.left l (omega arith);
+}
 
 pub doubled_none : (old : List ℕ) → AreDoubled old old 0
 doubled_none old = record { done = λ l below. absurd (omega arith); left = λ l above. refl }
@@ -132,11 +132,11 @@ pub record IsDoubling (old now : List ℕ) (label : ℕ) (changed : Bool) : Type
 
 pub doubling_none : (old : List ℕ) → All (λ p. p < length old) old → IsDoubling old old 0 false
 doubling_none old within = record {
-    same_count = refl;
-    within = within;
-    doubled = doubled_none old;
-    unchanged = λ e. record { same = refl; at_ends = λ l below. absurd (omega arith) };
-  }
+  same_count = refl;
+  within = within;
+  doubled = doubled_none old;
+  unchanged = λ e. record { same = refl; at_ends = λ l below. absurd (omega arith) };
+}
 
 twice_reached : (old now : List ℕ) (label : ℕ) (changed : Bool) → All (λ p. p < length old) old → label < length old → IsDoubling old now label changed → IsReached old 2 label (slice_index now (slice_index now label))
 twice_reached old now label changed within h is =
@@ -161,19 +161,19 @@ doubling_more old now label changed within h is =
 pub doubling_same : (old now : List ℕ) (label : ℕ) (changed : Bool) → All (λ p. p < length old) old → label < length old → slice_index now (slice_index now label) ≡ slice_index now label → IsDoubling old now label changed
     → IsDoubling old now (label + 1) changed
 doubling_same old now label changed within h same is = record {
-    same_count = is.same_count;
-    within = is.within;
-    doubled = record {
-      done = below_more (λ l. l < length old → IsReached old 2 l (slice_index now l)) label is.doubled.done
+  same_count = is.same_count;
+  within = is.within;
+  doubled = record {
+    done = below_more (λ l. l < length old → IsReached old 2 l (slice_index now l)) label is.doubled.done
         (λ inside. subst (IsReached old 2 label) same (twice_reached old now label changed within h is));
-      left = λ l above. is.doubled.left l (omega arith);
-    };
-    unchanged = λ e. record {
-      same = (is.unchanged e).same;
-      at_ends = below_more (λ l. slice_index old (slice_index old l) ≡ slice_index old l) label (is.unchanged e).at_ends
+    left = λ l above. is.doubled.left l (omega arith);
+  };
+  unchanged = λ e. record {
+    same = (is.unchanged e).same;
+    at_ends = below_more (λ l. slice_index old (slice_index old l) ≡ slice_index old l) label (is.unchanged e).at_ends
         (subst (λ (p : List ℕ). slice_index p (slice_index p label) ≡ slice_index p label) (is.unchanged e).same same);
-    };
-  }
+  };
+}
 
 -- After so many doublings of pointers.
 pub record IsShortening (old now : List ℕ) (times : ℕ) : Type 0 where
@@ -187,10 +187,10 @@ one_step f l = refl
 
 pub shortening_none : (old : List ℕ) → All (λ p. p < length old) old → IsShortening old old 0
 shortening_none old within = record {
-    same_count = refl;
-    within = within;
-    reached = λ l h. record { count = 1; many = omega arith; is = one_step (slice_index old) l };
-  }
+  same_count = refl;
+  within = within;
+  reached = λ l h. record { count = 1; many = omega arith; is = one_step (slice_index old) l };
+}
 
 pub shortening_more : (old now new : List ℕ) (times : ℕ) → IsShortening old now times → AreReached now 2 new → length new ≡ length now → All (λ p. p < length new) new → IsShortening old new (times + 1)
 shortening_more old now new times is doubled same within =
@@ -200,7 +200,7 @@ shortening_more old now new times is doubled same within =
       same_count = same ∙ is.same_count;
       within = subst (λ (n : ℕ). All (λ p. p < n) new) (same ∙ is.same_count) within;
       reached = subst (λ (few : ℕ). AreReached old few new) (sym turns)
-        (reached_twice old now new (2 ^ times) is.same_count (λ l h. is.within l 0 (omega (arith, is.same_count, h))) is.reached doubled);
+          (reached_twice old now new (2 ^ times) is.same_count (λ l h. is.within l 0 (omega (arith, is.same_count, h))) is.reached doubled);
     }
 
 pub shortened_far : (old now : List ℕ) (times far : ℕ) → far ≤ 2 ^ times → IsShortening old now times → AreReached old far now

@@ -11,7 +11,7 @@ ghost use Rattle.pg_boruvka.specs.Pointers.{AreMoved};
 use crate::arcs::DenseArc;
 use crate::gathering::gather;
 use crate::hooks::Hooks;
-use crate::pointers::{move_labels, point, shorten};
+use crate::pointers::move_to_ends;
 use crate::{Hook, NO_KEY, Piece, chosen, winners};
 use std::alloc::{AllocError, Global};
 
@@ -154,9 +154,7 @@ impl Tables {
         ensures same_arcs { self.new.arcs.items ≡ self.old.arcs.items }
     {
         chosen::mark(&mut self.chosen, &self.hooks.edges);
-        point(&mut self.hooks.targets);
-        shorten(&mut self.hooks.targets);
-        move_labels(&mut self.labels, &self.hooks.targets);
+        move_to_ends(&mut self.labels, &mut self.hooks.targets);
     }
 
     /// Whether no label has a winner.

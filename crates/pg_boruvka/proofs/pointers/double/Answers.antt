@@ -1,4 +1,3 @@
-use Rattle.std.proofs.Common.{◌<◌, length, arith}
 use Rattle.pg_boruvka.proofs.PointerWalks.{doubling_none, doubling_more, doubling_same}
 use Rattle.pg_boruvka.proofs.pointers.double.Goals as goal
 use Rattle.pg_boruvka.proofs.pointers.double.Goals.{then-after-next, else-after-next}

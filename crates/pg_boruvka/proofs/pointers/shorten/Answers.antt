@@ -1,7 +1,7 @@
-use Rattle.std.proofs.Common.{◌≡◌, ◌<◌, ◌≤◌, ◌^◌, length, arith, subst, sym}
+use Rattle.std.proofs.Common.{◌≡◌, ◌<◌, ◌≤◌, ◌^◌, arith, subst, sym}
 use Rattle.std.specs.Prelude.{All}
 use Rattle.pg_base.specs.declared.TheConstants.{MAX_VERTICES}
-use Rattle.pg_boruvka.proofs.PointerWalks.{IsShortening, shortening_none, shortening_more, shortened_far, shortened_at_ends, reached_to_end}
+use Rattle.pg_boruvka.proofs.PointerWalks.{shortening_none, shortening_more, shortened_far, shortened_at_ends, reached_to_end}
 use Rattle.pg_boruvka.proofs.pointers.shorten.Goals as goal
 
 pub loop-init : goal.loop-init
