@@ -1,7 +1,7 @@
 -- The hooks that a rank finds itself are noted, label after label.
-use Rattle.std.proofs.Common.{◌≡◌, ◌≢◌, ◌==◌, ◌||◌, not, ◌⊎◌, ℕ, ◌+◌, ◌%◌, ◌<◌, ◌≤◌, Bool, true, false, cond, List, length, get_or, refl, sym, ◌∙◌, ap, subst, inl, inr, ⊎_elim, arith, Option, Some, None, All}
+use Rattle.std.proofs.Common.{◌≡◌, ◌≢◌, ◌==◌, ◌||◌, not, ℕ, ◌+◌, ◌%◌, ◌<◌, ◌≤◌, Bool, true, false, List, length, refl, sym, ◌∙◌, subst, ⊎_elim, arith, Some, None, All}
 use Rattle.std.specs.Prelude.{slice_index}
-use Rattle.std.proofs.lemmas.Bool.{cases_eq, cases_Bool, eq-eqb, ne_eqb, eqb-true, cond-true, cond-false, or_parts}
+use Rattle.std.proofs.lemmas.Bool.{cases_eq, cases_Bool, eq-eqb, ne_eqb, cond-true, cond-false, or_parts}
 use Rattle.std.proofs.lemmas.List.Elements.{All-get_or}
 use Rattle.pg_base.specs.declared.TheConstants.{MAX_EDGES}
 use Rattle.pg_boruvka.specs.declared.TheConstants.{NO_KEY}
@@ -84,9 +84,9 @@ module _ (keys across winners targets_before edges_before targets edges : List �
   noted_without none = record {
     first = before.first;
     own = λ l from below. ⊎_elim
-      (λ same. subst (λ (x : ℕ). noted targets edges x ≡ own_hook_at keys across winners x) (sym same) (before.rest label (omega arith) within ∙ sym none))
-      (λ other. before.own l from (omega arith))
-      (cases_eq l label);
+        (λ same. subst (λ (x : ℕ). noted targets edges x ≡ own_hook_at keys across winners x) (sym same) (before.rest label (omega arith) within ∙ sym none))
+        (λ other. before.own l from (omega arith))
+        (cases_eq l label);
     rest = λ l from below. before.rest l (omega arith) below;
     still = before.still;
     all_targets = before.all_targets;
@@ -113,13 +113,13 @@ module _ (keys across winners targets_before edges_before targets edges : List �
       record {
         first = λ some. other 0 (λ e. omega (arith, e)) ∙ before.first some;
         own = λ l from below. ⊎_elim
-          (λ same. subst (λ (x : ℕ). noted new_targets new_edges x ≡ own_hook_at keys across winners x) (sym same) (here ∙ sym is))
-          (λ differs. other l differs ∙ before.own l from (omega arith))
-          (cases_eq l label);
+            (λ same. subst (λ (x : ℕ). noted new_targets new_edges x ≡ own_hook_at keys across winners x) (sym same) (here ∙ sym is))
+            (λ differs. other l differs ∙ before.own l from (omega arith))
+            (cases_eq l label);
         rest = λ l from below. other l (λ e. omega (arith, e)) ∙ before.rest l (omega arith) below;
         still = still before.still;
         all_targets = λ count labels all. all_targets count
-          (subst (λ (x : ℕ). x < count) (sym own_hook.target) (All-get_or (λ l. l < count) across label 0 (omega arith) labels)) (before.all_targets count labels all);
+            (subst (λ (x : ℕ). x < count) (sym own_hook.target) (All-get_or (λ l. l < count) across label 0 (omega arith) labels)) (before.all_targets count labels all);
         all_edges = λ count labels all. all_edges count (edge_below count h own_hook labels) (before.all_edges count labels all);
         same_targets = same_targets ∙ before.same_targets;
         same_edges = same_edges ∙ before.same_edges;

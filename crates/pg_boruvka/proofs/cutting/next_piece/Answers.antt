@@ -1,10 +1,8 @@
-use Rattle.std.proofs.Common.{arith, ◌<◌, ◌≡◌, ◌≤◌, ℕ, ◌+◌, ◌-◌, ◌*◌, ⊎_elim, sym, subst}
+use Rattle.std.proofs.Common.{arith, ◌<◌, ◌≡◌, ◌≤◌, ℕ, ◌+◌, ◌*◌, ⊎_elim, sym, subst}
 use Rattle.std.specs.Prelude.{slice_index}
 use Rattle.std.proofs.lemmas.Bool.{cases_eq, cases_lt}
 use Rattle.pg_boruvka.specs.declared.TheConstants.{NO_KEY}
-use Rattle.pg_boruvka.specs.declared.messages.Message.{Message}
 use Rattle.pg_boruvka.specs.declared.messages.Message.TheVariants.{Piece as Keys}
-use Rattle.pg_boruvka.specs.Numbered.{IsPieceNo}
 use Rattle.pg_boruvka.proofs.CutPieces.{piece_by_no, no_piece_by_no, no_piece_past}
 use Rattle.pg_boruvka.proofs.cutting.next_piece.Goals as goal
 

@@ -1,6 +1,4 @@
-use Rattle.std.proofs.Common.{rules, tests, arith, ◌<◌, ◌≡◌, ◌≢◌, ◌≤◌, ℕ, ◌+◌, ◌-◌, ◌++◌, length, List, take, drop, ap, sym, ◌∙◌}
-use Rattle.std.specs.Prelude.{min, slice_index}
-use Rattle.std.specs.List.{AllWithin, HoldsAt}
+use Rattle.std.proofs.Common.{rules, tests, ◌≡◌, ◌≢◌, ℕ, ◌-◌, ◌++◌, length, List, take, drop, ap, ◌∙◌}
 use Rattle.std.proofs.lemmas.Bool.{MatchBool-at_true, MatchBool-at_false}
 use Rattle.std.proofs.lemmas.Iterator.{cases_from_all, YieldsList-from_slice}
 use Rattle.pg_boruvka.specs.declared.TheConstants.{NO_KEY}
