@@ -1,9 +1,9 @@
 -- The pass over a rank's arcs, arc after arc.
-use Rattle.std.proofs.Common.{◌≡◌, ◌≢◌, ◌==◌, ◌&&◌, not, ◌⊎◌, ℕ, ◌+◌, ◌*◌, ◌%◌, ◌<◌, ◌≤◌, Bool, true, false, cond, List, [], ◌∷◌, ◌++◌, length, get_or, set, take, drop, map, refl, sym, ◌∙◌, ap, subst, inl, inr, ⊎_elim, arith, Option, Some, None, All, Contains}
-use Rattle.std.specs.Prelude.{min, nat_lt, filter, slice_index, slice_set}
-use Rattle.std.proofs.lemmas.Bool.{cases_eq, cases_lt, cases_Bool, eq-eqb, ne_eqb, eqb-true, lt-ltb, le-ltb, cond-true, cond-false, and_left, and_right, and_parts, false≢true}
-use Rattle.std.proofs.lemmas.List.{append-nil, get_or-set_same, get_or-set_other, length-set, take_more, get_or_default, map_push, map_more, take_all, get_or-drop}
-use Rattle.std.proofs.lemmas.List.Elements.{filter-append, All-get_or, All-contains, All-filter, All-set}
+use Rattle.std.proofs.Common.{◌≡◌, ◌≢◌, ◌==◌, not, ◌⊎◌, ℕ, ◌+◌, ◌%◌, ◌<◌, ◌≤◌, Bool, true, false, cond, List, [], ◌∷◌, ◌++◌, length, get_or, set, take, refl, sym, ◌∙◌, ap, subst, inl, inr, ⊎_elim, arith, Option, Some, None, All, Contains}
+use Rattle.std.specs.Prelude.{min, nat_lt, filter, slice_index}
+use Rattle.std.proofs.lemmas.Bool.{cases_eq, cases_lt, eq-eqb, ne_eqb, lt-ltb, le-ltb, cond-true, cond-false, and_left, and_right, false≢true}
+use Rattle.std.proofs.lemmas.List.{append-nil, get_or-set_same, get_or-set_other, length-set, get_or_default, map_more, get_or-drop}
+use Rattle.std.proofs.lemmas.List.Elements.{filter-append, All-get_or, All-contains, All-set}
 use Rattle.std.proofs.lemmas.List.Filters.{FiltersInPlace, FiltersInPlace-more_no, FiltersInPlace-more_set}
 use Rattle.std.proofs.lemmas.Nat.{mod-mul-add}
 use Rattle.pg_base.specs.declared.TheConstants.{MAX_EDGES}
@@ -106,8 +106,8 @@ leaves_none label l a within = ⊎_elim
     (λ same. and_right (label a.from == l) (not (label a.to == l)) (ap not (eq-eqb (label a.to) l (sym both ∙ same))))
     (λ other. leaves_else label l a other)
     (cases_eq (label a.from) l) where
-  both : label a.from ≡ label a.to
-  both = ⊎_elim (λ same. same) (λ other. absurd (false≢true (sym within ∙ ap not (ne_eqb (label a.from) (label a.to) other)))) (cases_eq (label a.from) (label a.to))
+      both : label a.from ≡ label a.to
+      both = ⊎_elim (λ same. same) (λ other. absurd (false≢true (sym within ∙ ap not (ne_eqb (label a.from) (label a.to) other)))) (cases_eq (label a.from) (label a.to))
 
 kept_push : (p : LocalArc → Bool) (arcs : List LocalArc) (a : LocalArc) → p a ≡ true → filter p (arcs ++ a ∷ []) ≡ filter p arcs ++ a ∷ []
 kept_push p arcs a passes = filter-append p arcs (a ∷ []) ∙ ap (λ (xs : List LocalArc). filter p arcs ++ xs) (cond-true (p a) (a ∷ []) [] passes)
@@ -176,7 +176,7 @@ module _ (arcs : List LocalArc) (label : ℕ → ℕ) (keys targets : List ℕ) 
       let least : least_of label from (arcs ++ a ∷ []) ≡ Some (later_arc o a) = ap (λ (xs : List LocalArc). least_arc xs) list ∙ least_push (filter (leaves label from) arcs) a in
       let key : slice_index keys_then from ≡ min key_then a.key = get_or-set_same keys from (min key_then a.key) 0 within in
       let target : slice_index targets_then from ≡ cond (nat_lt a.key key_then) (label a.to) (slice_index targets from) =
-        at_written (nat_lt a.key key_then) targets from (label a.to) also in
+      at_written (nat_lt a.key key_then) targets from (label a.to) also in
       subst (λ (x : Option LocalArc). IsNotedOf label x (slice_index keys_then from) (slice_index targets_then from)) (sym least)
       (subst (λ (k : ℕ). IsNotedOf label (Some (later_arc o a)) k (slice_index targets_then from)) (sym key)
       (subst (λ (t : ℕ). IsNotedOf label (Some (later_arc o a)) (min key_then a.key) t) (sym target)
@@ -252,14 +252,14 @@ keys_of_edges arcs label keys targets count edges are in_tables k d within =
     subst (IsOfEdge edges) (get_or_default keys k 0 d within)
     (edge_by label (locals arcs) edges (slice_index keys k) (slice_index targets k) (least_of label k (locals arcs)) noted (λ a is. among a is))
   where
-  among : (a : LocalArc) → least_of label k (locals arcs) ≡ Some a → a.edge < edges
-  among a is =
-      let best = least_arc_is (filter (leaves label k) (locals arcs)) in
-      let member : Contains (filter (leaves label k) (locals arcs)) a = (subst (IsLeastArc (filter (leaves label k) (locals arcs))) is best).0 in
-      let held = (Contains-filter (leaves label k) (locals arcs) a member).0 in
-      let found = member_of_map local arcs a held in
-      let at : IsInTables count edges found.0 = All-contains (IsInTables count edges) arcs found.0 in_tables found.1 in
-      subst (λ (x : LocalArc). x.edge < edges) found.2 at.edge
+    among : (a : LocalArc) → least_of label k (locals arcs) ≡ Some a → a.edge < edges
+    among a is =
+        let best = least_arc_is (filter (leaves label k) (locals arcs)) in
+        let member : Contains (filter (leaves label k) (locals arcs)) a = (subst (IsLeastArc (filter (leaves label k) (locals arcs))) is best).0 in
+        let held = (Contains-filter (leaves label k) (locals arcs) a member).0 in
+        let found = member_of_map local arcs a held in
+        let at : IsInTables count edges found.0 = All-contains (IsInTables count edges) arcs found.0 in_tables found.1 in
+        subst (λ (x : LocalArc). x.edge < edges) found.2 at.edge
 
 -- The labels to which arcs lead are below what all labels are below.
 targets_below : (count : ℕ) (b : Bool) (across : List ℕ) (i to : ℕ) → to < count → All (λ l. l < count) across → All (λ l. l < count) (cond b (set across i to) across)
@@ -291,7 +291,7 @@ module _ (labels : List ℕ) (xs ys : List DenseArc) (keys across_before across 
   pub gathered_apart : (key : ℕ) → source ≢ slice_index labels x.to → key ≡ (local x).key → key < NO_KEY → IsInTables (length labels) MAX_EDGES x
       → All (λ l. l < length labels) labels → length keys ≡ length labels → length across ≡ length labels
       → IsGathered labels xs (set ys kept x) (set keys source (min (slice_index keys source) key)) across_before
-        (cond (nat_lt key (slice_index keys source)) (set across source (slice_index labels x.to)) across) (kept + 1) (passed + 1)
+      (cond (nat_lt key (slice_index keys source)) (set across source (slice_index labels x.to)) across) (kept + 1) (passed + 1)
   gathered_apart key differ is small in_tables below long also =
       let passes : apart labels x ≡ true = ap not (ne_eqb source (slice_index labels x.to) differ) in
       let short : source < length labels = All-get_or (λ l. l < length labels) labels x.from 0 in_tables.from below in

@@ -2,6 +2,8 @@ pub mod RoundLists
 pub mod Leasts
 pub mod Gathered
 pub mod Lowering
+pub mod CutPieces
+pub mod NotedHooks
 pub mod Pieces
 pub mod Items
 pub mod Runs

@@ -1,9 +1,9 @@
 -- The winners of labels are lowered to the keys of a piece.
-use Rattle.std.proofs.Common.{◌≡◌, ◌⊎◌, ℕ, ◌+◌, ◌-◌, ◌<◌, ◌≤◌, List, ◌++◌, length, get_or, take, drop, refl, sym, ◌∙◌, ap, subst, inl, inr, ⊎_elim, arith}
-use Rattle.std.specs.Prelude.{min, max, slice_index, slice_index_or}
+use Rattle.std.proofs.Common.{◌≡◌, ◌⊎◌, ℕ, ◌+◌, ◌-◌, ◌<◌, ◌≤◌, List, ◌++◌, length, get_or, take, drop, sym, ◌∙◌, ap, inl, inr, ⊎_elim, arith}
+use Rattle.std.specs.Prelude.{min, max, slice_index}
 use Rattle.std.specs.Simd.Lanes.{zip2}
 use Rattle.std.proofs.lemmas.Bool.{cases_lt}
-use Rattle.std.proofs.lemmas.List.{length-take, length-take-le, length-drop, get_or-take, get_or-drop, get_or_append_left, get_or-append_right, get_or_past, get_or_default}
+use Rattle.std.proofs.lemmas.List.{length-take, length-take-le, length-drop, get_or-take, get_or-drop, get_or_append_left, get_or-append_right, get_or_past}
 use Rattle.std.proofs.lemmas.Simd.{get_or-zip2, length-zip2}
 use borrow.Rule.Slice.PartMut.{put_mid}
 use Rattle.pg_boruvka.specs.declared.TheConstants.{NO_KEY}
@@ -79,11 +79,11 @@ module _ (base : ℕ) (keys winners : List ℕ) (first past from to : ℕ) (cove
       (λ above. given_within l base keys above ∙ get_or_past keys (l - base) NO_KEY (far beside covered.begins covered.ends above))
       (cases_lt l base)
     where
-    far : (l < from) ⊎ (to ≤ l) → (from ≡ base) ⊎ (from ≡ first) → (to ≡ base + length keys) ⊎ (to ≡ past) → base ≤ l → length keys ≤ l - base
-    far (inl less) (inl begins) ends above = absurd (omega arith)
-    far (inl less) (inr begins) ends above = absurd (omega (arith, between.from))
-    far (inr more) begins (inl ends) above = omega arith
-    far (inr more) begins (inr ends) above = absurd (omega (arith, between.before))
+      far : (l < from) ⊎ (to ≤ l) → (from ≡ base) ⊎ (from ≡ first) → (to ≡ base + length keys) ⊎ (to ≡ past) → base ≤ l → length keys ≤ l - base
+      far (inl less) (inl begins) ends above = absurd (omega arith)
+      far (inl less) (inr begins) ends above = absurd (omega (arith, between.from))
+      far (inr more) begins (inl ends) above = omega arith
+      far (inr more) begins (inr ends) above = absurd (omega (arith, between.before))
 
   long_old : length (take (to - from) (drop from winners)) ≡ to - from
   long_old = omega (arith, length-take (to - from) (drop from winners), length-drop from winners, covered.end_before, covered.order)
@@ -105,10 +105,10 @@ module _ (base : ℕ) (keys winners : List ℕ) (first past from to : ℕ) (cove
   written l is =
       let at : l - from < to - from = omega (arith, is.from, is.before) in
       let old : get_or (take (to - from) (drop from winners)) (l - from) 0 ≡ slice_index winners l =
-        get_or-take (to - from) (drop from winners) (l - from) 0 at ∙ (get_or-drop from winners (l - from) 0 ∙ ap (slice_index winners) (omega (arith, is.from))) in
+      get_or-take (to - from) (drop from winners) (l - from) 0 at ∙ (get_or-drop from winners (l - from) 0 ∙ ap (slice_index winners) (omega (arith, is.from))) in
       let key : get_or given (l - from) NO_KEY ≡ get_or keys (l - base) NO_KEY =
-        get_or-take ((to - base) - (from - base)) (drop (from - base) keys) (l - from) NO_KEY (omega (arith, covered.base_before, covered.order))
-        ∙ (get_or-drop (from - base) keys (l - from) NO_KEY ∙ ap (λ (j : ℕ). get_or keys j NO_KEY) (omega (arith, covered.base_before, is.from))) in
+      get_or-take ((to - base) - (from - base)) (drop (from - base) keys) (l - from) NO_KEY (omega (arith, covered.base_before, covered.order))
+      ∙ (get_or-drop (from - base) keys (l - from) NO_KEY ∙ ap (λ (j : ℕ). get_or keys j NO_KEY) (omega (arith, covered.base_before, is.from))) in
       let gives : get_or given (l - from) NO_KEY ≡ given_key l m = key ∙ sym (given_within l base keys (omega (arith, covered.base_before, is.from))) in
       in_part from (to - from) winners lowered 0 room l long_lowered is.from (omega (arith, is.before, covered.order))
       ∙ (get_or-zip2 min (take (to - from) (drop from winners)) given (l - from) 0 NO_KEY 0 (omega (arith, long_old)) (omega (arith, long_given))
@@ -124,7 +124,7 @@ module _ (base : ℕ) (keys winners : List ℕ) (first past from to : ℕ) (cove
   are_lowered small = record {
     between = λ l is. ⊎_elim (λ inside. written l inside) (λ beside. kept_winner small l is beside) (cases_written from to l);
     others = λ l is_not. ⊎_elim
-      (λ inside. absurd (is_not (record { from = omega (arith, inside.from, covered.first_before); before = omega (arith, inside.before, covered.end_before) })))
-      (λ beside. beside_old l beside)
-      (cases_written from to l);
+        (λ inside. absurd (is_not (record { from = omega (arith, inside.from, covered.first_before); before = omega (arith, inside.before, covered.end_before) })))
+        (λ beside. beside_old l beside)
+        (cases_written from to l);
   }

@@ -1,13 +1,10 @@
-use Rattle.std.proofs.Common.{rules, arith, ◌≡◌, ℕ, ◌+◌, ◌*◌, ◌<◌, ◌≤◌, All, cond, filter, length, slice_index, Bool, true, false, nat_eq, nat_lt, List, [], ◌∷◌, ◌++◌, sym, refl, ap, ◌∙◌, subst, take, set, get_or, Fits, w64, Vec, Global}
-use Rattle.std.specs.Prelude.{min}
-use Rattle.std.proofs.lemmas.Bool.{eq-eqb, ne_eqb}
+use Rattle.std.proofs.Common.{rules, arith, All, length, slice_index, List, sym, refl, ap, ◌∙◌, subst, Vec, Global}
 use Rattle.std.proofs.lemmas.List.{take_all}
-use Rattle.std.proofs.lemmas.List.Elements.{All-filter, All-get_or}
-use Rattle.std.proofs.lemmas.List.Filters.{FiltersInPlace, FiltersInPlace-all, FiltersInPlace-more_no, FiltersInPlace-more_set}
+use Rattle.std.proofs.lemmas.List.Elements.{All-filter}
+use Rattle.std.proofs.lemmas.List.Filters.{FiltersInPlace-all}
 use Rattle.pg_base.specs.declared.TheConstants.{MAX_EDGES}
-use Rattle.pg_boruvka.specs.declared.TheConstants.{NO_KEY}
 use Rattle.pg_boruvka.specs.declared.arcs.DenseArc.{DenseArc}
-use Rattle.pg_boruvka.specs.Arcs.{locals, local, is_apart, IsInTables, AreLeasts, IsOfEdge}
+use Rattle.pg_boruvka.specs.Arcs.{locals, IsInTables, AreLeasts}
 use Rattle.pg_boruvka.proofs.Gathered.{apart, read_in_tables, locals_kept, leasts_of_none, keys_of_edges, gathered_within, gathered_apart}
 use Rattle.pg_boruvka.proofs.gathering.gather.Goals as goal
 use Rattle.pg_boruvka.proofs.gathering.gather.Goals.{then-from-to, else-from-to}
@@ -58,14 +55,14 @@ pub loop-place-preserved : goal.loop-place-preserved
 loop-place-preserved c =
     let at = read_in_tables (IsInTables (length c.args.labels.now) MAX_EDGES) _ _ _ _ _ _ c.loop-place.invariant.filters (omega arith) c.index.ensures c.requires.arcs in
     elim c.if-from-to.branch [
-      then-from-to w ↦
-      let items = ap (λ (v : Vec DenseArc Global). v.items) w.arcs-is in
-      rw (items, w.keys-is, w.across-is, w.kept-is, w.lower.ensures.key, w.lower.ensures.label)
-      (gathered_apart _ _ _ _ _ _ _ _ _ c.loop-place.invariant (omega arith) c.index.ensures w.key.result w.if-from-to.true w.key.ensures.value (omega (arith, w.key.ensures.small)) at
-      c.requires.labels (omega arith) (omega arith))
-    | else-from-to w ↦
-      rw (ap (λ (v : Vec DenseArc Global). v.items) w.arcs-is, w.keys-is, w.across-is, w.kept-is)
-      (gathered_within _ _ _ _ _ _ _ _ _ c.loop-place.invariant (omega arith) c.index.ensures w.if-from-to.false)
+      | then-from-to w ↦
+          let items = ap (λ (v : Vec DenseArc Global). v.items) w.arcs-is in
+          rw (items, w.keys-is, w.across-is, w.kept-is, w.lower.ensures.key, w.lower.ensures.label)
+          (gathered_apart _ _ _ _ _ _ _ _ _ c.loop-place.invariant (omega arith) c.index.ensures w.key.result w.if-from-to.true w.key.ensures.value (omega (arith, w.key.ensures.small)) at
+          c.requires.labels (omega arith) (omega arith))
+      | else-from-to w ↦
+          rw (ap (λ (v : Vec DenseArc Global). v.items) w.arcs-is, w.keys-is, w.across-is, w.kept-is)
+          (gathered_within _ _ _ _ _ _ _ _ _ c.loop-place.invariant (omega arith) c.index.ensures w.if-from-to.false)
     ]
 
 pub returns-clause-kept : goal.returns-clause-kept

@@ -1,4 +1,4 @@
-use Rattle.std.proofs.Common.{arith, ◌<◌, ◌≡◌, ◌≤◌, ℕ, ◌+◌, ◌-◌, length, List, ap, sym, ◌∙◌, subst}
+use Rattle.std.proofs.Common.{arith, ◌≡◌, ℕ, ◌+◌, ◌-◌, length, List, ap, sym, ◌∙◌, subst}
 use Rattle.std.specs.Prelude.{min}
 use borrow.Rule.Slice.PartMut.{put_mid}
 use Rattle.pg_boruvka.specs.declared.messages.Message.TheVariants.{Piece as Keys}
