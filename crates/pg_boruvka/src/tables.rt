@@ -6,7 +6,7 @@ ghost use Rattle.pg_boruvka.specs.Arcs.{IsInTables, IsOfEdge, locals, is_apart, 
 ghost use Rattle.pg_boruvka.specs.Noted.{noted, own_hook_at, AreUnhooked, AreStill, IsNoted, IsEdgeOrNone};
 ghost use Rattle.pg_boruvka.specs.Chosen.{AreMarked};
 ghost use Rattle.pg_boruvka.specs.Lowered.{AreLowered, AreBegun};
-ghost use Rattle.pg_boruvka.specs.Pointers.{AreMoved};
+ghost use Rattle.pg_boruvka.specs.Pointers.{AreMoved, AreTogether};
 
 use crate::arcs::DenseArc;
 use crate::gathering::gather;
@@ -150,6 +150,7 @@ impl Tables {
         ensures marked { AreMarked self.old.hooks.edges.items self.old.chosen.items self.new.chosen.items }
         ensures same_edges { length self.new.chosen.items ≡ length self.old.chosen.items }
         ensures moved { AreMoved MAX_VERTICES self.old.hooks.targets.items self.old.labels.items self.new.labels.items }
+        ensures together { AreTogether self.old.labels.items self.new.labels.items }
         ensures same_count { length self.new.labels.items ≡ length self.old.labels.items }
         ensures same_arcs { self.new.arcs.items ≡ self.old.arcs.items }
     {
