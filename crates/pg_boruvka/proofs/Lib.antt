@@ -28,6 +28,7 @@ pub mod Merging
 pub mod BeginningPhases
 pub mod EndingPhases
 pub mod RoundsEnding
+pub mod Seeking
 pub mod PointerWalks
 pub mod PointerPairs
 pub mod LabelMoves
