@@ -219,3 +219,14 @@ module _ (far : ℕ) (handled sent : List (List (Body Message))) (v : View) (kee
       hooks = λ running is. let was = keeps.hooks running is in record { some = was.some; all = was.all; still = was.still };
       sent_so_far = λ e. no_vote vote e;
     }
+
+-- The message that is sent next wasn't passed before.
+pub unpassed_before : (v w : View) (to : ℕ) (m : Message) → IsFurther v w → IsOther v.part.rank v.part.ranks to → w.to ≡ to → IsAt v to w.at m → IsPassed v to w.at → ⊥
+unpassed_before v w to m further other here at passed =
+    ⊎_elim (λ early. omega (arith, early, here)) (λ late. omega (arith, late.1)) (further.stays to w.at passed)
+
+-- What was due is due still.
+pub at_before : (v w : View) (to number : ℕ) (m : Message) → DidNoMessage v w → IsAt w to number m → IsAt v to number m
+at_before v w to number m same at =
+    let old : IsAt (passed_to v w.to w.at) to number m = subst (λ (x : View). IsAt x to number m) same at in
+    of_passed v v.stage w.to w.at to number m old
