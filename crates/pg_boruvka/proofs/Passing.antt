@@ -66,12 +66,12 @@ module _ (v : View) where
   one_message stage.Hook to i m o a b = a.is ∙ (ap (λ (h : Hook). Hooked h) (some_same a.hook b.hook (sym a.own ∙ b.own)) ∙ sym b.is)
 
   -- What is due doesn't depend on what was passed.
-  in_passed : (s : Stage) (to at r i : ℕ) (m : Message) → IsIn v s r i m → IsIn (passed_to v to at) s r i m
+  pub in_passed : (s : Stage) (to at r i : ℕ) (m : Message) → IsIn v s r i m → IsIn (passed_to v to at) s r i m
   in_passed stage.Up to at r i m is = is
   in_passed stage.Down to at r i m is = is
   in_passed stage.Hook to at r i m is = record { hook = is.hook; label = is.label; own = is.own; is = is.is }
 
-  of_passed : (s : Stage) (to at r i : ℕ) (m : Message) → IsIn (passed_to v to at) s r i m → IsIn v s r i m
+  pub of_passed : (s : Stage) (to at r i : ℕ) (m : Message) → IsIn (passed_to v to at) s r i m → IsIn v s r i m
   of_passed stage.Up to at r i m is = is
   of_passed stage.Down to at r i m is = is
   of_passed stage.Hook to at r i m is = record { hook = is.hook; label = is.label; own = is.own; is = is.is }

@@ -11,6 +11,7 @@ use Rattle.pg_boruvka.specs.Numbered.{IsPieceNo}
 use Rattle.pg_boruvka.specs.Known.{View, passed_to}
 use Rattle.pg_boruvka.specs.Shown.{IsIn, IsAt, IsPassed}
 use Rattle.pg_boruvka.specs.Calls.{DidNoMessage, IsNext, IsNoneFrom, IsFurther}
+use Rattle.pg_boruvka.proofs.Passing.{in_passed}
 
 pub if_none : {X : Type 0} (r : Option X) (P : Type 0) → P → IfNone r P
 if_none None P p = p
@@ -103,3 +104,46 @@ module _ (v : View) (to number : ℕ) where
       (λ apart. inl (omega arith))
       (cases_eq r v.to)
   none_further none r k m at (inr late) = absurd (omega (arith, late.1))
+
+-- To go further, and then further.
+further_on : (v : View) (a b c d : ℕ) → IsFurther v (passed_to v a b) → IsFurther (passed_to v a b) (passed_to v c d) → IsFurther v (passed_to v c d)
+further_on v a b c d first second = record {
+  same = refl;
+  stays = λ r k p. second.stays r k (first.stays r k p);
+  none = λ r k m other at p. first.none r k m other at (second.none r k m other (in_passed v v.stage a b r k m at) p);
+}
+
+pub then_further : (v w : View) (c d : ℕ) → IsFurther v w → IsFurther w (passed_to w c d) → IsFurther v (passed_to w c d)
+then_further v w c d first second =
+    let same : w ≡ passed_to v w.to w.at = first.same in
+    subst (λ (x : View). IsFurther v (passed_to x c d)) (sym same)
+    (further_on v w.to w.at c d (subst (IsFurther v) same first) (subst (λ (x : View). IsFurther x (passed_to x c d)) same second))
+
+module _ (w : View) where
+  -- Up to the next message.
+  pub further_to : (number : ℕ) (m : Message) → IsNext w w.to w.at number m → IsFurther w (passed_to w w.to number)
+  further_to number m next = record {
+    same = refl;
+    stays = λ r k p. ⊎_elim (λ early. inl early) (λ late. inr (late.0, omega (arith, late.1, next.from))) p;
+    none = λ r k o other at p. ⊎_elim
+        (λ early. inl early)
+        (λ late. ⊎_elim
+        (λ before. inr (late.0, before))
+        (λ after. absurd (next.first k o after late.1 (subst (λ (x : ℕ). IsAt w x k o) late.0 at)))
+        (cases_lt k w.at))
+        p;
+  }
+
+  -- Past a rank to which no message is left, and past the own rank.
+  pub further_past : (w.to ≡ w.part.rank) ⊎ IsNoneFrom w w.to w.at → IsFurther w (passed_to w (w.to + 1) 0)
+  further_past done = record {
+    same = refl;
+    stays = λ r k p. ⊎_elim (λ early. inl (omega arith)) (λ late. inl (omega (arith, late.0))) p;
+    none = λ r k o other at p. ⊎_elim
+        (λ own. past_own own r k other p)
+        (λ none. none_further w 0 0 none r k o at p)
+        done;
+  } where
+    past_own : w.to ≡ w.part.rank → (r k : ℕ) → IsOther w.part.rank w.part.ranks r → IsPassed (passed_to w (w.to + 1) 0) r k → IsPassed w r k
+    past_own own r k other (inl early) = ⊎_elim (λ same. absurd (other.1 (same ∙ own))) (λ apart. inl (omega arith)) (cases_eq r w.to)
+    past_own own r k other (inr late) = absurd (omega (arith, late.1))
