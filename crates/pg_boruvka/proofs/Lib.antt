@@ -29,6 +29,7 @@ pub mod BeginningPhases
 pub mod EndingPhases
 pub mod RoundsEnding
 pub mod Seeking
+pub mod Unhooked
 pub mod PointerWalks
 pub mod PointerPairs
 pub mod LabelMoves

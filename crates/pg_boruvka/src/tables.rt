@@ -96,19 +96,48 @@ impl Tables {
         ensures same_labels { self.new.labels.items ≡ self.old.labels.items }
         ensures same_chosen { self.new.chosen.items ≡ self.old.chosen.items }
     {
-        self.hooks.clear();
+        self.clear_hooks();
+        self.gather_arcs();
+        self.begin_winners(first, past);
+    }
+
+    // Keeps the arcs whose ends differ in label, and finds the best keys.
+    fn gather_arcs(&mut self)
+        ensures kept { locals self.new.arcs.items ≡ filter (is_apart (slice_index self.new.labels.items)) (locals self.old.arcs.items) }
+        ensures leasts { AreLeasts (locals self.old.arcs.items) (slice_index self.new.labels.items) self.new.keys.items self.new.across.items }
+        ensures same_labels { self.new.labels.items ≡ self.old.labels.items }
+        ensures same_chosen { self.new.chosen.items ≡ self.old.chosen.items }
+        ensures same_hooks { self.new.hooks ≡ self.old.hooks }
+    {
         gather(
             &mut self.arcs,
             &self.labels,
             &mut self.keys,
             &mut self.across,
         );
+    }
+
+    // Makes the keys of the labels from `first` on and before `past` their winners.
+    fn begin_winners(&mut self, first: u32, past: u32)
+        requires order { first ≤ past }
+        requires within { past ≤ length self.old.labels.items }
+        ensures begun { AreBegun self.new.keys.items first past self.new.winners.items }
+        ensures rest { known_in self.new ≡ with_winners (known_in self.old) self.new.winners.items }
+    {
         winners::begin(
             &mut self.winners,
             &self.keys,
             first as usize,
             past as usize,
         );
+    }
+
+    // Unhooks all labels.
+    fn clear_hooks(&mut self)
+        ensures unhooked { AreUnhooked self.new.hooks.targets.items self.new.hooks.edges.items }
+        ensures rest { known_in self.new ≡ with_hooks (known_in self.old) self.new.hooks.targets.items self.new.hooks.edges.items }
+    {
+        self.hooks.clear();
     }
 
     /// Lowers the winners of the labels from `first` on and before `past` to the keys of the piece.
@@ -140,7 +169,7 @@ impl Tables {
         ensures still { AreStill self.new.hooks.targets.items self.new.hooks.edges.items }
         ensures rest { known_in self.new ≡ with_hooks (known_in self.old) self.new.hooks.targets.items self.new.hooks.edges.items }
     {
-        self.hooks.clear();
+        self.clear_hooks();
         self.hooks
             .note_own(&self.keys, &self.across, &self.winners);
     }
