@@ -1,4 +1,6 @@
+pub mod OneText
 pub mod SearchTexts
+pub mod TreeTexts
 pub mod Steps
 pub mod RunLemmas
 pub mod BestLemmas
