@@ -16,12 +16,12 @@ use Rattle.pg_print.specs.declared.faults.Fault.{Fault}
 use Rattle.pg_print.specs.declared.faults.Fault.TheVariants.{Words, Graph as GraphFault, Parts, Source, Read, Write, Memory}
 use Rattle.pg_print.specs.FaultLines.{status_of}
 use Rattle.pg_words.specs.Plan.{Meaning, plan_of}
-use Rattle.pg_top.specs.Files.{FileHolds, HasInput, HasOwners, IsFileOf, IsMissingParts, MissesFile, PartsHold}
+use Rattle.pg_top.specs.Files.{FileHolds, HasGraph, HasInput, HasOwners, IsFileOf, IsMissingParts, MissesFile, PartsHold}
 use Rattle.pg_top.specs.Run.{IsOutside, IsOrNoMemory, HasPlan, HasText, RunFails, Tells, TellsInput, TellsPartsFault, Traces}
 use Rattle.pg_top.specs.Text.{IsTextOf, IsInside}
 use Rattle.pg_top.specs.declared.works.Work.{Work}
 use Rattle.pg_top.specs.Work.{HasWork, IsSolved, IsWork}
-use Rattle.pg_top.proofs.InputLemmas.{FileHolds-at, FileOf-n, HasInput-weaker, not_both, not_missing, odd_has_no_owners, owners_at, owners_not_missing, owners_not_odd}
+use Rattle.pg_top.proofs.InputLemmas.{FileHolds-at, FileOf-n, HasGraph-at, HasInput-weaker, not_both, not_missing, odd_has_no_owners, owners_at, owners_not_missing, owners_not_odd}
 
 not_outside : (plan : Meaning) (n m : ℕ) → n ≡ m → IsInside plan.algorithm plan.source n → IsOutside plan m → ⊥
 not_outside plan n m same inside outside = neither (inside.first outside.sourced) (inside.last outside.sourced) outside.outside where
@@ -54,7 +54,7 @@ pub no_text : (spoken : List (List ℕ)) (files : Option (List NamedBytes)) (pla
 no_text spoken files plan text fault P tells odd (other, planned, h) =
     let a = tells.planned in
     let same : other ≡ plan = cc in
-    let found = FileHolds-at plan.file files text (IsFileOf (λ g. HasOwners plan.parts files g.n plan.ranks (λ owners. (written : List ℕ) × IsTextOf plan g written × P written))) tells.contents (subst (λ (m : Meaning). HasText m files P) same h) in
+    let found = HasGraph-at plan.file files text (λ g. HasOwners plan.parts files g.n plan.ranks (λ owners. (written : List ℕ) × IsTextOf plan g written × P written)) tells.contents (subst (λ (m : Meaning). HasText m files P) same h) in
     not_both text found.0 fault found.1 odd
 
 module _ (spoken : List (List ℕ)) (files : Option (List NamedBytes)) (plan : Meaning) (text : List ℕ) (tells : Tells spoken files plan text) where
@@ -69,6 +69,10 @@ module _ (spoken : List (List ℕ)) (files : Option (List NamedBytes)) (plan : M
   at_file : (P : Meaning → List ℕ → Type 0) → HasPlan spoken (λ other. FileHolds other.file files (P other)) → P plan text
   at_file P h = FileHolds-at plan.file files text (P plan) tells.contents (at_plan (λ m. FileHolds m.file files (P m)) h)
 
+  -- What holds of the graph of the words' plan holds of one of which the text is a file.
+  at_graph : (P : Meaning → Graph → Type 0) → HasPlan spoken (λ other. HasGraph other.file files (P other)) → IsFileOf (P plan) text
+  at_graph P h = HasGraph-at plan.file files text (P plan) tells.contents (at_plan (λ m. HasGraph m.file files (P m)) h)
+
   not_words : plan_of spoken ≡ None → ⊥
   not_words e = let a = tells.planned in cc
 
@@ -77,7 +81,7 @@ module _ (spoken : List (List ℕ)) (files : Option (List NamedBytes)) (plan : M
     at_owners : (P : Meaning → Graph → Option (List ℕ) → Type 0) → HasPlan spoken (λ other. HasInput other files (P other))
         → (h : Graph) × (h.n ≡ g.n) × HasOwners plan.parts files g.n plan.ranks (P plan h)
     at_owners P h =
-        let found = at_file (λ m. IsFileOf (λ k. HasOwners m.parts files k.n m.ranks (P m k))) h in
+        let found = at_graph (λ m k. HasOwners m.parts files k.n m.ranks (P m k)) h in
         let n : found.0.n ≡ g.n = FileOf-n text found.0 g found.1 file in
         (found.0, n, subst (λ size. HasOwners plan.parts files size plan.ranks (P plan found.0)) n found.2)
 
@@ -85,10 +89,10 @@ module _ (spoken : List (List ℕ)) (files : Option (List NamedBytes)) (plan : M
     not_malformed line kind h = not_both text g (record { line = line; kind = kind }) file (at_file (λ _ text. fault_of text ≡ Some (record { line = line; kind = kind })) h)
 
     -- The fault of a partition file is one for this graph's number of vertices.
-    parts_at : (line : ℕ) (kind : PartsKind) → HasPlan spoken (λ other. FileHolds other.file files (IsFileOf (λ g. PartsHold other.parts files (λ text. parts_fault_of g.n other.ranks text ≡ Some (record { line = line; kind = kind })))))
+    parts_at : (line : ℕ) (kind : PartsKind) → HasPlan spoken (λ other. HasGraph other.file files (λ g. PartsHold other.parts files (λ text. parts_fault_of g.n other.ranks text ≡ Some (record { line = line; kind = kind }))))
         → PartsHold plan.parts files (λ text. parts_fault_of g.n plan.ranks text ≡ Some (record { line = line; kind = kind }))
     parts_at line kind h =
-        let found = at_file (λ m. IsFileOf (λ k. PartsHold m.parts files (λ text. parts_fault_of k.n m.ranks text ≡ Some (record { line = line; kind = kind })))) h in
+        let found = at_graph (λ m k. PartsHold m.parts files (λ text. parts_fault_of k.n m.ranks text ≡ Some (record { line = line; kind = kind }))) h in
         subst (λ size. PartsHold plan.parts files (λ text. parts_fault_of size plan.ranks text ≡ Some (record { line = line; kind = kind }))) (FileOf-n text found.0 g found.1 file) found.2
 
 module _ (spoken : List (List ℕ)) (files : Option (List NamedBytes)) (plan : Meaning) where
@@ -104,10 +108,10 @@ module _ (spoken : List (List ℕ)) (files : Option (List NamedBytes)) (t : Trac
   malformed text tells first odd none Words h = absurd (not_words spoken files plan text tells h)
   malformed text tells first odd none (GraphFault line kind) h = inl refl
   malformed text tells first odd none (Parts line kind) h =
-      let found = at_file spoken files plan text tells (λ m. IsFileOf (λ g. PartsHold m.parts files (λ text. parts_fault_of g.n m.ranks text ≡ Some (record { line = line; kind = kind })))) h in
+      let found = at_graph spoken files plan text tells (λ m g. PartsHold m.parts files (λ text. parts_fault_of g.n m.ranks text ≡ Some (record { line = line; kind = kind }))) h in
       absurd (not_both text found.0 first found.1 odd)
   malformed text tells first odd none (Source source) (other, planned, (same, h)) =
-      let found = at_file spoken files plan text tells (λ m. IsFileOf (λ g. HasOwners m.parts files g.n m.ranks (λ owners. IsOutside m g.n))) (other, planned, h) in
+      let found = at_graph spoken files plan text tells (λ m g. HasOwners m.parts files g.n m.ranks (λ owners. IsOutside m g.n)) (other, planned, h) in
       absurd (not_both text found.0 first found.1 odd)
   malformed text tells first odd none Read h = absurd (missed (at_plan spoken files plan text tells (λ m. Rose t.inputs_before t.inputs_after ⊎ MissesFile m files) h)) where
     missed : Rose t.inputs_before t.inputs_after ⊎ MissesFile plan files → ⊥

@@ -9,7 +9,7 @@ use Rattle.pg_metis.proofs.FaultLaws.{files_have_no_fault}
 use Rattle.pg_metis.proofs.OneGraph.{files_are_of_one_graph}
 use Rattle.pg_metis.proofs.PartsLemmas.{parts_files_have_no_fault}
 use Rattle.pg_words.specs.Plan.{Meaning}
-use Rattle.pg_top.specs.Files.{FileHolds, HasInput, HasOwners, IsFileOf, IsListOf, IsMissingParts, PartsHold, TellsOwners, told}
+use Rattle.pg_top.specs.Files.{FileHolds, HasGraph, HasInput, HasList, HasOwners, IsFileOf, IsListOf, IsMissingParts, PartsHold, TellsOwners, told}
 
 -- ---- weaker facts
 
@@ -17,17 +17,24 @@ pub FileHolds-weaker : (name : List ℕ) (files : Option (List NamedBytes)) (P Q
 FileHolds-weaker name None P Q f p = tt
 FileHolds-weaker name (Some fs) P Q f (text, found, p) = (text, found, f text p)
 
+HasGraph-weaker : (name : List ℕ) (files : Option (List NamedBytes)) (P Q : Graph → Type 0) → ((g : Graph) → P g → Q g) → HasGraph name files P → HasGraph name files Q
+HasGraph-weaker name None P Q f (g, is, p) = (g, is, f g p)
+HasGraph-weaker name (Some fs) P Q f h = FileHolds-weaker name (Some fs) (IsFileOf P) (IsFileOf Q) (λ text (g, is, p). (g, is, f g p)) h
+
+HasList-weaker : (name : List ℕ) (files : Option (List NamedBytes)) (n ranks : ℕ) (P Q : List ℕ → Type 0) → ((owners : List ℕ) → P owners → Q owners) → HasList name files n ranks P → HasList name files n ranks Q
+HasList-weaker name None n ranks P Q f (owners, are, p) = (owners, are, f owners p)
+HasList-weaker name (Some fs) n ranks P Q f h = FileHolds-weaker name (Some fs) (IsListOf n ranks P) (IsListOf n ranks Q) (λ text (owners, is, p). (owners, is, f owners p)) h
+
 HasOwners-weaker : (parts : Option (List ℕ)) (files : Option (List NamedBytes)) (n ranks : ℕ) (P Q : Option (List ℕ) → Type 0) → ((owners : Option (List ℕ)) → P owners → Q owners)
     → HasOwners parts files n ranks P → HasOwners parts files n ranks Q
 HasOwners-weaker None files n ranks P Q f h = f None h
-HasOwners-weaker (Some name) files n ranks P Q f h =
-    FileHolds-weaker name files (IsListOf n ranks (λ owners. P (Some owners))) (IsListOf n ranks (λ owners. Q (Some owners))) (λ text (owners, is, p). (owners, is, f (Some owners) p)) h
+HasOwners-weaker (Some name) files n ranks P Q f h = HasList-weaker name files n ranks (λ owners. P (Some owners)) (λ owners. Q (Some owners)) (λ owners p. f (Some owners) p) h
 
 pub HasInput-weaker : (plan : Meaning) (files : Option (List NamedBytes)) (P Q : Graph → Option (List ℕ) → Type 0) → ((g : Graph) (owners : Option (List ℕ)) → P g owners → Q g owners)
     → HasInput plan files P → HasInput plan files Q
 HasInput-weaker plan files P Q f h =
-    FileHolds-weaker plan.file files (IsFileOf (λ g. HasOwners plan.parts files g.n plan.ranks (P g))) (IsFileOf (λ g. HasOwners plan.parts files g.n plan.ranks (Q g)))
-    (λ text (g, is, p). (g, is, HasOwners-weaker plan.parts files g.n plan.ranks (P g) (Q g) (f g) p)) h
+    HasGraph-weaker plan.file files (λ g. HasOwners plan.parts files g.n plan.ranks (P g)) (λ g. HasOwners plan.parts files g.n plan.ranks (Q g))
+    (λ g p. HasOwners-weaker plan.parts files g.n plan.ranks (P g) (Q g) (f g) p) h
 
 -- ---- told texts
 
@@ -35,6 +42,14 @@ HasInput-weaker plan files P Q f h =
 pub FileHolds-at : (name : List ℕ) (files : Option (List NamedBytes)) (text : List ℕ) (P : List ℕ → Type 0) → told name files ≡ Some text → FileHolds name files P → P text
 FileHolds-at name None text P e p = cc
 FileHolds-at name (Some fs) text P e (other, found, p) = let same : other ≡ text = cc in subst P same p
+
+pub HasGraph-at : (name : List ℕ) (files : Option (List NamedBytes)) (text : List ℕ) (P : Graph → Type 0) → told name files ≡ Some text → HasGraph name files P → IsFileOf P text
+HasGraph-at name None text P e h = absurd (cc e)
+HasGraph-at name (Some fs) text P e h = FileHolds-at name (Some fs) text (IsFileOf P) e h
+
+HasList-at : (name : List ℕ) (files : Option (List NamedBytes)) (n ranks : ℕ) (text : List ℕ) (P : List ℕ → Type 0) → told name files ≡ Some text → HasList name files n ranks P → IsListOf n ranks P text
+HasList-at name None n ranks text P e h = absurd (cc e)
+HasList-at name (Some fs) n ranks text P e h = FileHolds-at name (Some fs) text (IsListOf n ranks P) e h
 
 pub not_missing : (name : List ℕ) (files : Option (List NamedBytes)) (text : List ℕ) → told name files ≡ Some text → IsMissing name files → ⊥
 not_missing name None text e missing = missing
@@ -57,7 +72,7 @@ FileOf-n text g h p q = ap (λ (k : Graph). k.n) (files_are_of_one_graph text g 
 -- What doesn't speak of the owners holds where they are told.
 pub owners_at : (parts : Option (List ℕ)) (files : Option (List NamedBytes)) (n ranks : ℕ) (P : Type 0) → TellsOwners parts files n ranks → HasOwners parts files n ranks (λ owners. P) → P
 owners_at None files n ranks P tells h = h
-owners_at (Some name) files n ranks P (text, contents, list) h = let l = FileHolds-at name files text (IsListOf n ranks (λ owners. P)) contents h in l.2
+owners_at (Some name) files n ranks P (text, contents, list) h = let l = HasList-at name files n ranks text (λ owners. P) contents h in l.2
 
 pub owners_not_missing : (parts : Option (List ℕ)) (files : Option (List NamedBytes)) (n ranks : ℕ) → TellsOwners parts files n ranks → IsMissingParts parts files → ⊥
 owners_not_missing None files n ranks tells missing = missing
@@ -74,4 +89,4 @@ owners_not_odd (Some name) files n ranks fault (text, contents, list) h =
 pub odd_has_no_owners : (name : List ℕ) (files : Option (List NamedBytes)) (n ranks : ℕ) (text : List ℕ) (fault : FirstPartsFault) (P : Option (List ℕ) → Type 0) → told name files ≡ Some text → parts_fault_of n ranks text ≡ Some fault
     → HasOwners (Some name) files n ranks P → ⊥
 odd_has_no_owners name files n ranks text fault P contents odd h =
-    let l = FileHolds-at name files text (IsListOf n ranks (λ owners. P (Some owners))) contents h in no_list text n ranks l.0 fault l.1 odd
+    let l = HasList-at name files n ranks text (λ owners. P (Some owners)) contents h in no_list text n ranks l.0 fault l.1 odd

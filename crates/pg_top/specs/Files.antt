@@ -1,6 +1,6 @@
 -- What the files of a plan say: its graph, and the owners of the vertices where it names a partition file.
-use Rattle.std.specs.Prelude.{◌≡◌, ℕ, ◌⊎◌, ⊤, Option, Some, None, List, []}
-use Rattle.pg_base.specs.Graph.{Graph}
+use Rattle.std.specs.Prelude.{◌≡◌, ℕ, ◌<◌, ◌⊎◌, ⊤, Option, Some, None, List, [], length, All}
+use Rattle.pg_base.specs.Graph.{Graph, IsGraph}
 use Rattle.pg_outside.specs.Files.{NamedBytes, contents_of, IsMissing}
 use Rattle.pg_metis.specs.File.{FileOf}
 use Rattle.pg_metis.specs.Parts.{PartsOf}
@@ -15,11 +15,26 @@ FileHolds name (Some files) P = (text : List ℕ) × (contents_of name files ≡
 abbrev pub IsFileOf : (Graph → Type 0) → List ℕ → Type 0
 IsFileOf P text = (g : Graph) × FileOf text g × P g
 
+-- P holds of the graph of the file of this name; where the files aren't told, of some graph.
+abbrev pub HasGraph : List ℕ → Option (List NamedBytes) → (Graph → Type 0) → Type 0
+HasGraph name None P = (g : Graph) × IsGraph g × P g
+HasGraph name (Some files) P = FileHolds name (Some files) (IsFileOf P)
+
 -- The text lists the owners of n vertices, and P holds of the list.
 abbrev pub IsListOf : ℕ → ℕ → (List ℕ → Type 0) → List ℕ → Type 0
 IsListOf n ranks P text = (owners : List ℕ) × PartsOf text n ranks owners × P owners
 
--- A partition file is named, and P holds of its contents.
+-- A rank for each of n vertices.
+pub record AreOwners (n ranks : ℕ) (owners : List ℕ) : Type 0 where
+  pub count : length owners ≡ n
+  pub below : All (λ owner. owner < ranks) owners
+
+-- P holds of the owners that the file of this name lists for n vertices; where the files aren't told, of some owners.
+abbrev pub HasList : List ℕ → Option (List NamedBytes) → ℕ → ℕ → (List ℕ → Type 0) → Type 0
+HasList name None n ranks P = (owners : List ℕ) × AreOwners n ranks owners × P owners
+HasList name (Some files) n ranks P = FileHolds name (Some files) (IsListOf n ranks P)
+
+-- A partition file is named, and P holds of its contents where the files are told.
 abbrev pub PartsHold : Option (List ℕ) → Option (List NamedBytes) → (List ℕ → Type 0) → Type 0
 PartsHold None files P = ⊥
 PartsHold (Some name) files P = FileHolds name files P
@@ -27,11 +42,11 @@ PartsHold (Some name) files P = FileHolds name files P
 -- P holds of the owners that the partition file lists for n vertices, or of no list where no such file is named.
 abbrev pub HasOwners : Option (List ℕ) → Option (List NamedBytes) → ℕ → ℕ → (Option (List ℕ) → Type 0) → Type 0
 HasOwners None files n ranks P = P None
-HasOwners (Some name) files n ranks P = FileHolds name files (IsListOf n ranks (λ owners. P (Some owners)))
+HasOwners (Some name) files n ranks P = HasList name files n ranks (λ owners. P (Some owners))
 
 -- P holds of the plan's graph, and of the owners where the plan names a partition file.
 abbrev pub HasInput : Meaning → Option (List NamedBytes) → (Graph → Option (List ℕ) → Type 0) → Type 0
-HasInput plan files P = FileHolds plan.file files (IsFileOf (λ g. HasOwners plan.parts files g.n plan.ranks (P g)))
+HasInput plan files P = HasGraph plan.file files (λ g. HasOwners plan.parts files g.n plan.ranks (P g))
 
 -- A partition file is named, and no file has its name.
 abbrev pub IsMissingParts : Option (List ℕ) → Option (List NamedBytes) → Type 0

@@ -15,7 +15,7 @@ use Rattle.pg_print.specs.declared.faults.Fault.TheVariants.{Words, Graph as Gra
 use Rattle.pg_words.specs.Plan.{Meaning, plan_of}
 use Rattle.pg_words.specs.declared.plans.PlanFault.{PlanFault}
 use Rattle.pg_words.specs.declared.plans.PlanFault.TheVariants as plan
-use Rattle.pg_top.specs.Files.{FileHolds, IsFileOf, PartsHold, HasInput, MissesFile, TellsOwners, told}
+use Rattle.pg_top.specs.Files.{FileHolds, HasGraph, PartsHold, HasInput, MissesFile, TellsOwners, told}
 use Rattle.pg_top.specs.Text.{IsTextOf, has_source}
 
 -- The words have a plan, of which P holds.
@@ -57,8 +57,8 @@ OwnersFail name n ranks files before after _ = ⊥
 -- Why there was nothing to compute with.
 abbrev pub InputFails : Meaning → Option (List NamedBytes) → ℕ → ℕ → Fault → Type 0
 InputFails plan files before after (GraphFault line kind) = FileHolds plan.file files (λ text. fault_of text ≡ Some (record { line = line; kind = kind }))
-InputFails plan files before after (Parts line kind) = FileHolds plan.file files (IsFileOf (λ g.
-    PartsHold plan.parts files (λ text. parts_fault_of g.n plan.ranks text ≡ Some (record { line = line; kind = kind }))))
+InputFails plan files before after (Parts line kind) = HasGraph plan.file files (λ g.
+    PartsHold plan.parts files (λ text. parts_fault_of g.n plan.ranks text ≡ Some (record { line = line; kind = kind })))
 InputFails plan files before after (Source source) = (source ≡ plan.source) × HasInput plan files (λ g owners. IsOutside plan g.n)
 InputFails plan files before after Read = Rose before after ⊎ MissesFile plan files
 InputFails plan files before after Memory = ⊤

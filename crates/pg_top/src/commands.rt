@@ -10,7 +10,7 @@ ghost use Rattle.pg_print.specs.FaultLines.{fault_line, status_of};
 ghost use Rattle.pg_base.specs.Graph.{Graph};
 ghost use Rattle.pg_words.specs.Built.{IsBuilt};
 ghost use Rattle.pg_words.specs.Plan.{Meaning, meaning_of, plan_of, texts};
-ghost use Rattle.pg_top.specs.Files.{FileHolds, HasInput, IsFileOf, IsReadToEnd, MissesFile, PartsHold};
+ghost use Rattle.pg_top.specs.Files.{FileHolds, HasGraph, HasInput, IsReadToEnd, MissesFile, PartsHold};
 ghost use Rattle.pg_top.specs.Run.{HasPlan, HasText, InputFails, IsOrNoMemory, IsOutside, PlanFails, PrepareFails, Reports, RunFails, Tells, TellsInput, TellsPartsFault, from_plan};
 ghost use Rattle.pg_top.specs.Text.{IsInside};
 ghost use Rattle.pg_top.specs.Work.{HasWork, IsSolved};
@@ -183,8 +183,8 @@ pub fn command<W: Threads + Wait + Sync, I: Inputs, S: Sink, E: Sink, G: Gate>(
     ensures bad_graph { result.status ≡ Status.BadGraph → HasPlan (texts words.now)
         (λ plan. FileHolds plan.file (I.files inputs.old) (λ text. (fault : FirstFault) × (fault_of text ≡ Some fault))) }
     ensures bad_parts { result.status ≡ Status.BadParts → HasPlan (texts words.now)
-        (λ plan. FileHolds plan.file (I.files inputs.old) (IsFileOf (λ g. PartsHold plan.parts (I.files inputs.old)
-        (λ text. (fault : FirstPartsFault) × (parts_fault_of g.n plan.ranks text ≡ Some fault))))) }
+        (λ plan. HasGraph plan.file (I.files inputs.old) (λ g. PartsHold plan.parts (I.files inputs.old)
+        (λ text. (fault : FirstPartsFault) × (parts_fault_of g.n plan.ranks text ≡ Some fault)))) }
     ensures bad_source { result.status ≡ Status.BadSource → HasPlan (texts words.now)
         (λ plan. HasInput plan (I.files inputs.old) (λ g owners. IsOutside plan g.n)) }
     ensures read_fault { result.status ≡ Status.ReadFault → HasPlan (texts words.now)

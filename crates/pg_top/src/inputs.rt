@@ -1,10 +1,8 @@
 //! What the files of a plan say: its graph, and the owners of the vertices.
 ghost use Rattle.std.specs.Prelude.{◌≡◌, ◌<◌, ◌≤◌, All, IfOk, IfErr, OnOk, true, false, vec_len};
 ghost use Rattle.std.specs.Option.{ForSome, option_map};
-ghost use Rattle.pg_metis.specs.File.{FileOf};
-ghost use Rattle.pg_metis.specs.Parts.{PartsOf};
 ghost use Rattle.pg_words.specs.Plan.{meaning_of};
-ghost use Rattle.pg_top.specs.Files.{FileHolds, HasInput, HasOwners, IsReadToEnd};
+ghost use Rattle.pg_top.specs.Files.{HasGraph, HasInput, HasList, HasOwners, IsReadToEnd};
 ghost use Rattle.pg_top.specs.Run.{InputFails, IsOutside, LoadFails, OwnersFail, PartsFail};
 ghost use Rattle.pg_top.specs.Text.{IsInside};
 
@@ -25,7 +23,7 @@ pub(crate) struct Input {
 
 /// The graph of the file of this name.
 fn load_graph<I: Inputs>(alloc: Global, inputs: &mut I, name: &str) -> Result<EdgeList, Fault>
-    ensures loaded { IfOk result (λ g. FileHolds name.now (I.files inputs.old) (λ text. FileOf text g)) }
+    ensures loaded { IfOk result (λ g. HasGraph name.now (I.files inputs.old) (λ loaded. loaded ≡ g)) }
     ensures end { OnOk result (IsReadToEnd (I.files inputs.old) (I.left inputs.new)) }
     ensures fails { IfErr result (LoadFails name.now (I.files inputs.old) (I.faults inputs.old) (I.faults inputs.new)) }
     ensures later { I.faults inputs.old ≤ I.faults inputs.new }
@@ -45,7 +43,7 @@ fn load_owners<I: Inputs>(
     n: u32,
     ranks: Ranks,
 ) -> Result<Vec<u32>, Fault>
-    ensures loaded { IfOk result (λ owners. FileHolds name.now (I.files inputs.old) (λ text. PartsOf text n ranks owners.items)) }
+    ensures loaded { IfOk result (λ owners. HasList name.now (I.files inputs.old) n ranks (λ loaded. loaded ≡ owners.items)) }
     ensures count { IfOk result (λ owners. vec_len owners ≡ n) }
     ensures below { IfOk result (λ owners. All (λ owner. owner < ranks) owners.items) }
     ensures end { OnOk result (IsReadToEnd (I.files inputs.old) (I.left inputs.new)) }
