@@ -11,7 +11,6 @@ use Rattle.pg_metis.specs.File.{FileOf}
 use Rattle.pg_metis.specs.Parts.{FirstPartsFault, parts_fault_of}
 use Rattle.pg_metis.specs.declared.faults.Kind.{Kind}
 use Rattle.pg_metis.specs.declared.parts_faults.PartsKind.{PartsKind}
-use Rattle.pg_print.specs.Columns.{column_text}
 use Rattle.pg_print.specs.declared.faults.Fault.{Fault}
 use Rattle.pg_print.specs.declared.faults.Fault.TheVariants.{Words, Graph as GraphFault, Parts, Source, Read, Write, Memory}
 use Rattle.pg_print.specs.FaultLines.{status_of}
@@ -30,23 +29,23 @@ not_outside plan n m same inside outside = neither (inside.first outside.sourced
   neither first last (inr above) = omega arith
 
 -- What was solved for the plan's files is their text and their work.
-module _ (spoken : List (List ℕ)) (files : Option (List NamedBytes)) (answers : List (Option ℕ)) (work : Work) where
+module _ (spoken : List (List ℕ)) (files : Option (List NamedBytes)) (text : List ℕ) (work : Work) where
   abbrev SolvedFor : Meaning → Type 0
-  SolvedFor plan = HasInput plan files (λ g owners. IsSolved plan g owners answers work)
+  SolvedFor plan = HasInput plan files (λ g owners. IsSolved plan g owners text work)
 
-  pub text_from_solved : (P : List ℕ → Type 0) → HasPlan spoken SolvedFor → P (column_text answers) → HasPlan spoken (λ plan. HasText plan files P)
+  pub text_from_solved : (P : List ℕ → Type 0) → HasPlan spoken SolvedFor → P text → HasPlan spoken (λ plan. HasText plan files P)
   text_from_solved P (plan, planned, solved) done = (
     plan,
     planned,
-    HasInput-weaker plan files _ _ (λ g owners s. (column_text answers, record { inside = s.inside; answers = answers; right = s.right; spelled = refl }, done)) solved,
+    HasInput-weaker plan files _ _ (λ g owners s. (text, s.right, done)) solved,
   )
 
-  pub work_from_solved : (P : List ℕ → Type 0) (other : Work) → work ≡ other → HasPlan spoken SolvedFor → P (column_text answers) → HasPlan spoken (λ plan. HasWork plan files other P)
+  pub work_from_solved : (P : List ℕ → Type 0) (other : Work) → work ≡ other → HasPlan spoken SolvedFor → P text → HasPlan spoken (λ plan. HasWork plan files other P)
   work_from_solved P other same (plan, planned, solved) done = (
     plan,
     planned,
     HasInput-weaker plan files _ _ (λ g owners s.
-        (column_text answers, record { inside = s.inside; answers = answers; right = s.right; spelled = refl }, subst (IsWork plan g owners (column_text answers)) same s.carried, done)) solved,
+        (text, s.right, subst (IsWork plan g owners text) same s.carried, done)) solved,
   )
 
 -- A text that was written is that of a file without a fault.

@@ -5,6 +5,7 @@ mod agendas;
 mod columns;
 mod commands;
 mod crews;
+mod forests;
 mod inputs;
 pub mod laws;
 mod relaxing;
