@@ -10,3 +10,5 @@ pub mod AnswerLemmas
 pub mod RightLemmas
 pub mod InputLemmas
 pub mod Causes
+pub mod EdgesBelow
+pub mod GrownLemmas

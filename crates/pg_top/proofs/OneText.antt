@@ -1,16 +1,16 @@
 -- An algorithm, a graph and a source have one text, the colours on one rank.
-use Rattle.std.proofs.Common.{◌≡◌, ◌≢◌, ℕ, zero, suc, ◌+◌, ◌-◌, ◌<◌, ◌≤◌, ◌⊎◌, inl, inr, Option, Some, None, List, [], ◌∷◌, length, map, get_or, refl, sym, ◌∙◌, ap, subst, arith}
+use Rattle.std.proofs.Common.{◌≡◌, ℕ, zero, suc, ◌+◌, ◌-◌, ◌<◌, ◌≤◌, inl, inr, Option, Some, None, List, [], ◌∷◌, length, map, get_or, refl, sym, ◌∙◌, ap, subst, arith}
 use Rattle.std.proofs.lemmas.Bool.{cases_lt}
 use Rattle.pg_base.specs.Graph.{Graph, arcs_of}
 use Rattle.pg_base.specs.Walk.{weight_of}
-use Rattle.pg_base.specs.Colouring.{AreJoined, IsFirstFit, colour_in}
+use Rattle.pg_base.specs.Colouring.{IsFirstFit, colour_in}
 use Rattle.pg_base.proofs.WalkLemmas.{least_is_one, lowest_is_one}
 use Rattle.pg_forest.proofs.WholeForests.{forest_is_one}
 use Rattle.pg_print.specs.Columns.{column_text}
 use Rattle.pg_print.specs.Forests.{forest_text}
 use Rattle.pg_words.specs.declared.plans.Algorithm.{Algorithm}
 use Rattle.pg_words.specs.declared.plans.Algorithm.TheVariants.{Bfs, Sssp, Components, Forest, Colour, Grid}
-use Rattle.pg_top.specs.Text.{AreAnswersOf, AreColours, IsAnswerText, IsColumnText, IsRootOf}
+use Rattle.pg_top.specs.Text.{AreAnswersOf, AreColours, IsColumnText, IsRootOf}
 use Rattle.pg_top.specs.TextLaws.{TextIsOne}
 
 same_lists : {X : Type 0} (d : X) (xs ys : List X) → length xs ≡ length ys → ((i : ℕ) → i < length xs → get_or xs i d ≡ get_or ys i d) → xs ≡ ys
@@ -79,7 +79,9 @@ same_colours g xs ys p q =
     let c = p.first_fit refl in
     let d = q.first_fit refl in
     same_lists 0 xs ys (omega arith)
-    (λ i below. same_first_fit g (colour_in xs) (colour_in ys) refl refl c d (i + 2) (i + 1) (omega arith) (omega arith) (omega arith))
+    (λ i below.
+    let place : (i + 1) - 1 ≡ i = omega arith in
+    subst (λ (k : ℕ). get_or xs k 0 ≡ get_or ys k 0) place (same_first_fit g (colour_in xs) (colour_in ys) refl refl c d (i + 2) (i + 1) (omega arith) (omega arith) (omega arith)))
 
 -- Columns of one text.
 one_column : (algorithm : Algorithm) (source : ℕ) (g : Graph) (a b : List ℕ) → IsColumnText algorithm source g a → IsColumnText algorithm source g b → a ≡ b

@@ -1,11 +1,11 @@
 -- The least numbers of arcs on a path, and other columns on one with weights.
-use Rattle.std.proofs.Common.{◌≡◌, ℕ, zero, suc, ◌+◌, ◌-◌, ◌<◌, ◌≤◌, Option, Some, None, List, [], ◌∷◌, length, get_or, refl, sym, ◌∙◌, ap, arith, All}
+use Rattle.std.proofs.Common.{◌≡◌, ℕ, zero, suc, ◌+◌, ◌-◌, ◌<◌, ◌≤◌, Option, Some, None, List, [], ◌∷◌, get_or, refl, ap, arith, All}
 use Rattle.std.specs.Prelude.{codes}
 use Rattle.std.specs.Fmt.{digits}
 use Rattle.std.proofs.lemmas.List.Elements.{All-from_recursion}
-use Rattle.pg_base.specs.Graph.{Graph, Arc, arcs_of}
+use Rattle.pg_base.specs.Graph.{Arc, arcs_of}
 use Rattle.pg_base.specs.Examples.{arc}
-use Rattle.pg_base.specs.Walk.{IsWalk, Joins, weight_of, LeastArcs, LeastWeight}
+use Rattle.pg_base.specs.Walk.{IsWalk, Joins, LeastArcs, LeastWeight}
 use Rattle.pg_base.specs.Examples.{graph, path_edges}
 use Rattle.pg_base.proofs.WalkLemmas.{apart_by_limit, least_arcs_by, least_weight_by, lowest_by}
 use Rattle.pg_words.specs.declared.plans.Algorithm.TheVariants.{Bfs, Sssp, Components}

@@ -1,7 +1,8 @@
 -- What forests and colourings print on small graphs.
-use Rattle.std.proofs.Common.{◌≡◌, ℕ, zero, suc, ◌-◌, List, [], ◌∷◌, get_or, refl, sym, ap, ◌∙◌, subst, arith}
+use Rattle.std.proofs.Common.{◌≡◌, ℕ, zero, suc, ◌-◌, List, [], ◌∷◌, get_or, refl, ap, ◌∙◌, subst, arith}
 use Rattle.std.specs.Prelude.{codes}
 use Rattle.std.specs.Fmt.{digits}
+use Rattle.std.proofs.lemmas.Bool.{ne_eqb}
 use Rattle.pg_base.specs.Colouring.{AreProper, IsFirstFit, colour_in}
 use Rattle.pg_base.specs.Forest.{IsForest}
 use Rattle.pg_base.specs.Examples.{graph, middle_one, path_edges, triangle_edges, triangle_tree}
@@ -37,7 +38,10 @@ in_the_middle (suc zero) = refl
 in_the_middle (suc (suc zero)) = refl
 in_the_middle (suc (suc (suc zero))) = refl
 in_the_middle (suc (suc (suc (suc zero)))) = refl
-in_the_middle (suc (suc (suc (suc (suc v))))) = refl
+in_the_middle (suc (suc (suc (suc (suc v))))) =
+    let none : middle_one (suc (suc (suc (suc (suc v))))) ≡ 0 = rw (ne_eqb (suc (suc (suc (suc (suc v))))) 2 (λ same. omega (arith, same))) refl in
+    let place : suc (suc (suc (suc v))) ≡ suc (suc (suc (suc (suc v)))) - 1 = omega arith in
+    none ∙ ap (λ (k : ℕ). get_or path_colours k 0) place
 
 pub text_of_path : AreProper (graph 4 path_edges) path_colours → IsFirstFit (graph 4 path_edges) middle_one → IsAnswerText Colour 1 0 (graph 4 path_edges) (codes "0\n1\n0\n0\n")
 unfolding digits

@@ -2,8 +2,8 @@
 use Rattle.std.specs.Prelude.{ℕ, List}
 use Rattle.pg_print.specs.Columns.{column_text}
 use Rattle.pg_print.specs.Forests.{edges_at, forest_text}
-use Rattle.pg_top.specs.declared.columns.Answers.{Answers}
-use Rattle.pg_top.specs.declared.columns.Answers.TheVariants.{Column, Forest}
+use Rattle.pg_top.specs.declared.answers.Answers.{Answers}
+use Rattle.pg_top.specs.declared.answers.Answers.TheVariants.{Column, Forest}
 use Rattle.pg_top.specs.declared.columns.Tree.{Tree}
 
 abbrev pub tree_text : Tree → List ℕ

@@ -15,7 +15,7 @@ ghost use Rattle.pg_top.specs.Run.{HasPlan, HasText, InputFails, IsOrNoMemory, I
 ghost use Rattle.pg_top.specs.Text.{IsInside};
 ghost use Rattle.pg_top.specs.Work.{HasWork, IsSolved};
 
-use crate::columns::print_answers;
+use crate::answers::print_answers;
 use crate::inputs::read_input;
 use crate::solving::{Solved, crew_of, solve};
 use crate::{Answer, Plan, PlanFault, Work, plan};

@@ -16,6 +16,7 @@ ghost use Rattle.pg_top.specs.Work.{IsGrownBy, SpellsForest};
 use crate::columns::Tree;
 use crate::crews::Crew;
 use crate::inputs::Input;
+use crate::weights::heaviest;
 use pg_adj::{Part, split};
 use pg_base::{EdgeList, Gate, OutOfMemory};
 use pg_boruvka::Dense;
@@ -103,13 +104,14 @@ fn grow_input<W: Threads + Wait + Sync, G: Gate>(
     requires are_ranks { ForSome owners (λ owners. All (λ owner. owner < crew.now.ranks) owners.items) }
     ensures { IfOk result (λ f. IsGrownBy (option_map (λ owners. owners.items) owners) crew.now.ranks crew.now.capacity graph.now f.programs.items f.lanes.items) }
 {
+    let n = graph.n();
     match owners {
         Some(owners) => {
             let dist = Listed::new(alloc, owners, crew.ranks)?;
             grow(token, alloc, graph, &dist, crew, gate)
         }
         None => {
-            let dist = Block::new(graph.n(), crew.ranks);
+            let dist = Block::new(n, crew.ranks);
             grow(token, alloc, graph, &dist, crew, gate)
         }
     }
@@ -138,6 +140,8 @@ pub(crate) fn least_forest<W: Threads + Wait + Sync, G: Gate>(
         grown.finished.programs.items grown.finished.lanes.items) }
 {
     let Input { graph, owners } = input;
+    let _ranks = crew.ranks.count();
+    let _most = heaviest(&graph);
     let finished = grow_input(token, alloc, &graph, owners, crew, gate)?;
     let indices = indices_of(alloc, &finished.programs)?;
     Ok(Grown {

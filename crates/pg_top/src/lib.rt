@@ -2,6 +2,7 @@
 #![tactic(auto)]
 
 mod agendas;
+mod answers;
 mod columns;
 mod commands;
 mod crews;
@@ -12,6 +13,7 @@ mod relaxing;
 mod solving;
 #[cfg(test)]
 mod tests;
+mod weights;
 mod works;
 
 pub use commands::command;

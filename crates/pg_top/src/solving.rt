@@ -7,18 +7,19 @@ ghost use Rattle.pg_dist.specs.Sharing.{IsSharing};
 ghost use Rattle.pg_words.specs.Plan.{meaning_of};
 ghost use Rattle.pg_words.specs.Built.{IsBuilt};
 ghost use Rattle.pg_top.specs.Relaxed.{AreAnswers, IsRelaxation};
-ghost use Rattle.pg_base.specs.Graph.{IsGraph};
 ghost use Rattle.pg_base.specs.Distances.{AreLeastArcs};
 ghost use Rattle.pg_top.specs.Answered.{text_in};
 ghost use Rattle.pg_top.specs.Text.{AreLeastWeights, AreLowest, IsInside, IsTextOf};
 ghost use Rattle.pg_top.specs.Work.{IsCarried, IsRelaxedBy, IsWork};
 
 use crate::agendas::{Agendas, ByBucket, ByLevel};
-use crate::columns::{Answers, Field, Numbers};
+use crate::answers::Answers;
+use crate::columns::{Field, Numbers};
 use crate::crews::Crew;
 use crate::forests::least_forest;
 use crate::inputs::Input;
 use crate::relaxing::{answers, relax};
+use crate::weights::heaviest;
 use crate::{Algorithm, Plan, Work};
 use pg_agenda::{Agenda, Buckets, Levels};
 use pg_base::{EdgeList, Gate, OutOfMemory, Ranks};
@@ -266,16 +267,4 @@ pub(crate) fn solve<W: Threads + Wait + Sync, G: Gate>(
         Algorithm::Colour => Err(OutOfMemory),
         Algorithm::Grid => unreachable!(),
     }
-}
-
-/// The greatest weight of an edge, 0 where there is none.
-fn heaviest(graph: &EdgeList) -> u32
-    ensures graph { IsGraph graph.now }
-    ensures most { All (λ e. e.w ≤ result) graph.now.edges }
-{
-    let mut most = 0;
-    for edge in graph.edges() {
-        most = most.max(edge.w);
-    }
-    most
 }
