@@ -10,5 +10,6 @@ pub mod AnswerLemmas
 pub mod RightLemmas
 pub mod InputLemmas
 pub mod Causes
+pub mod ColourLemmas
 pub mod EdgesBelow
 pub mod GrownLemmas

@@ -1,5 +1,6 @@
 pub mod Examples
 pub mod Answered
+pub mod Coloured
 pub mod Files
 pub mod Grown
 pub mod Distributions

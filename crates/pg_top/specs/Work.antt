@@ -1,5 +1,5 @@
 -- What a run leaves beside its texts: the final programs of its ranks and the lanes between them.
-use Rattle.std.specs.Prelude.{◌≡◌, ℕ, Option, List}
+use Rattle.std.specs.Prelude.{◌≡◌, ℕ, Option, Some, List, map}
 use Rattle.pg_base.specs.declared.edges.Edge.{Edge}
 use Rattle.pg_base.specs.Graph.{Graph, arcs_of}
 use Rattle.pg_outside.specs.Files.{NamedBytes}
@@ -23,15 +23,18 @@ use Rattle.pg_boruvka.specs.declared.dense.Dense.{Dense}
 use Rattle.pg_boruvka.specs.declared.messages.Message.{Message}
 use Rattle.pg_boruvka.specs.Known.{edges_in}
 use Rattle.pg_run.specs.Lanes.{sent_on}
+use Rattle.pg_cells.specs.declared.bodies.CellBody.{CellBody}
+use Rattle.pg_colour.specs.declared.colouring.Colouring.{Colouring}
 use Rattle.pg_top.specs.declared.columns.Field.{Field}
 use Rattle.pg_top.specs.declared.columns.Field.TheVariants.{Amount, Class}
 use Rattle.pg_top.specs.Distributions.{IsDistribution}
+use Rattle.pg_top.specs.Coloured.{AreHeld, IsColouring, SeeOwners}
 use Rattle.pg_top.specs.Grown.{IsGrowth}
 use Rattle.pg_top.specs.Relaxed.{AreAnswers, IsRelaxation, value_of}
 use Rattle.pg_top.specs.Files.{HasInput}
 use Rattle.pg_top.specs.Text.{IsTextOf}
 use Rattle.pg_top.specs.declared.works.Work.{Work}
-use Rattle.pg_top.specs.declared.works.Work.TheVariants.{None, Hops, Weights, Roots, Forest}
+use Rattle.pg_top.specs.declared.works.Work.TheVariants.{None, Hops, Weights, Roots, Forest, Colours}
 
 module _ {L A : Type 0} {l : LabelGhosts L} {a : AgendaGhosts A} where
   -- The programs of a relaxation by this label, of which each share takes the arcs of these weights, ended over a whole book, on so many ranks
@@ -70,6 +73,22 @@ pub record SpellsForest (owners : Option (List ℕ)) (ranks capacity : ℕ) (g :
   pub held : Each (λ rank p. edges_at g.edges (edges_in p) ≡ tree) programs
   pub spelled : text ≡ forest_text tree
 
+-- The programs of a colouring, ended over a whole book, on so many ranks over lanes of this capacity, among which the graph is divided
+-- by these owners or in blocks; and these are the colours that they hold.
+pub record IsColouredBy (owners : Option (List ℕ)) (ranks capacity : ℕ) (g : Graph) (colours : List (Option ℕ)) (programs : List Colouring) (lanes : List (Settled (Envelope CellBody))) : Type 0 where
+  pub sharing : Sharing
+  pub laws : IsSharing sharing
+  pub distribution : IsDistribution owners g.n ranks sharing
+  pub colouring : IsColouring sharing g capacity programs lanes
+  pub held : AreHeld sharing programs colours
+
+-- The text spells the colours of such a colouring, in which each ghost is seen with its owner's colour.
+pub record SpellsColours (owners : Option (List ℕ)) (ranks capacity : ℕ) (g : Graph) (text : List ℕ) (programs : List Colouring) (lanes : List (Settled (Envelope CellBody))) : Type 0 where
+  pub colours : List ℕ
+  pub coloured : IsColouredBy owners ranks capacity g (map Some colours) programs lanes
+  pub ghosts : SeeOwners coloured.sharing programs
+  pub spelled : text ≡ column_text (map Some colours)
+
 -- The programs and lanes of the plan's algorithm, which hold what this text spells. Least weights part light from heavy arcs at the plan's delta.
 abbrev pub IsWork : Meaning → Graph → Option (List ℕ) → List ℕ → Work → Type 0
 IsWork plan g owners text None = ⊥
@@ -77,6 +96,7 @@ IsWork plan g owners text (Hops f) = plan.algorithm ≡ algorithm.Bfs × SpellsA
 IsWork plan g owners text (Weights f) = plan.algorithm ≡ algorithm.Sssp × SpellsAnswers (record { source = plan.source }) (takes_by plan.delta) Amount owners plan.ranks plan.capacity g text f.programs.items f.lanes.items
 IsWork plan g owners text (Roots f) = plan.algorithm ≡ algorithm.Components × SpellsAnswers (record {}) takes_all Class owners plan.ranks plan.capacity g text f.programs.items f.lanes.items
 IsWork plan g owners text (Forest f) = plan.algorithm ≡ algorithm.Forest × SpellsForest owners plan.ranks plan.capacity g text f.programs.items f.lanes.items
+IsWork plan g owners text (Colours f) = plan.algorithm ≡ algorithm.Colour × SpellsColours owners plan.ranks plan.capacity g text f.programs.items f.lanes.items
 
 -- P holds of a text that the plan means for the graph of its file, and the work holds what it spells.
 abbrev pub HasWork : Meaning → Option (List NamedBytes) → Work → (List ℕ → Type 0) → Type 0

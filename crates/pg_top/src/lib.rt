@@ -3,6 +3,7 @@
 
 mod agendas;
 mod answers;
+mod colours;
 mod columns;
 mod commands;
 mod crews;

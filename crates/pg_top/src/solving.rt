@@ -14,6 +14,7 @@ ghost use Rattle.pg_top.specs.Work.{IsCarried, IsRelaxedBy, IsWork};
 
 use crate::agendas::{Agendas, ByBucket, ByLevel};
 use crate::answers::Answers;
+use crate::colours::proper_colours;
 use crate::columns::{Field, Numbers};
 use crate::crews::Crew;
 use crate::forests::least_forest;
@@ -264,7 +265,13 @@ pub(crate) fn solve<W: Threads + Wait + Sync, G: Gate>(
                 work: Work::Forest(grown.finished),
             })
         }
-        Algorithm::Colour => Err(OutOfMemory),
+        Algorithm::Colour => {
+            let coloured = proper_colours(token, alloc, input, crew, gate)?;
+            Ok(Solved {
+                answers: Answers::Column(coloured.colours),
+                work: Work::Colours(coloured.finished),
+            })
+        }
         Algorithm::Grid => unreachable!(),
     }
 }
