@@ -3,6 +3,7 @@ use Rattle.std.specs.Prelude.{◌≡◌, ◌≢◌, ◌⊎◌, ℕ, ◌+◌, ◌
 use Rattle.pg_group.specs.declared.messages.Body.{Body}
 use Rattle.pg_group.specs.declared.messages.Body.TheVariants.{Item}
 use Rattle.pg_group.specs.Ranked.{IsOther, append_at}
+use Rattle.pg_boruvka.specs.declared.TheConstants.{NO_KEY}
 use Rattle.pg_boruvka.specs.declared.messages.Hook.{Hook}
 use Rattle.pg_boruvka.specs.declared.messages.Piece.{Piece}
 use Rattle.pg_boruvka.specs.declared.messages.Message.{Message}
@@ -77,3 +78,8 @@ pub record IsFurther (old new : View) : Type 0 where
   pub same : DidNoMessage old new
   pub stays : (to number : ℕ) → IsPassed old to number → IsPassed new to number
   pub none : (to number : ℕ) (m : Message) → IsOther old.part.rank old.part.ranks to → IsAt old to number m → IsPassed new to number → IsPassed old to number
+
+-- The second round of a phase without winners.
+pub record IsOver (v : View) : Type 0 where
+  pub second : v.stage ≡ stage.Down
+  pub none : (l : ℕ) → 1 ≤ l → l < length v.known.labels → slice_index v.known.winners l ≡ NO_KEY

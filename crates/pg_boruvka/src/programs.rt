@@ -25,7 +25,7 @@ impl Dense {
         ensures rest { view_of self.new ≡ with_known (view_of self.old) (with_winners (known_in self.old.tables) self.new.tables.winners.items) }
         ensures same_idle { self.new.idle ≡ self.old.idle }
     {
-        let (first, past) = self.labels_of(self.rank);
+        let (first, past) = self.own_labels();
         let end = self.n + 1;
         match self.stage {
             Stage::Up => self.tables.lower(piece, first, past),
@@ -75,11 +75,15 @@ impl Dense {
 }
 
 impl Program for Dense {
-    ghost use Rattle.std.specs.Prelude.{◌≡◌};
+    ghost use Rattle.std.specs.Prelude.{◌↔◌, List};
+    ghost use Rattle.pg_group.specs.declared.messages.Body.{Body};
     ghost use Rattle.pg_group.specs.Rolls.{IsZeros};
+    ghost use Rattle.pg_group.specs.Supersteps.{append_marks, is_stop, OnAgain, OnStop};
+    ghost use Rattle.pg_boruvka.specs.declared.messages.Message.{Message};
+    ghost use Rattle.pg_boruvka.specs.declared.dense.Dense.{Dense};
     ghost use Rattle.pg_boruvka.specs.Known.{part_in, view_of, round_of};
     ghost use Rattle.pg_boruvka.specs.Shown.{IsNewDense, KeepsDense};
-    ghost use Rattle.pg_boruvka.specs.Calls.{SentOne, TookIn, DidNoMessage, IsAllSent};
+    ghost use Rattle.pg_boruvka.specs.Calls.{SentOne, TookIn, DidNoMessage, IsAllSent, IsOver};
 
     type Body = Message;
 
@@ -144,7 +148,23 @@ impl Program for Dense {
         ZEROS
     }
 
-    fn round_end(&mut self, _votes: &[Vote]) -> Next {
+    /// Ends the round. `Stop` comes exactly with the second round of a phase in which no label has a winner.
+    fn round_end(&mut self, _votes: &[Vote]) -> Next
+        requires running { self.old.ended ≡ false }
+        requires each { length _votes.now ≡ (part_in self.old).ranks }
+        requires mine { slice_get _votes.now (part_in self.old).rank ≡ self.old.cast }
+        ensures kept { (start : Dense) (handled sent : List (List (Body Message))) → KeepsDense start handled sent self.old
+            → KeepsDense start (append_marks (part_in self.old).rank _votes.now handled) sent self.new }
+        ensures stops { (is_stop result ≡ true) ↔ IsOver (view_of self.old) }
+        ensures stop { self.new.ended ≡ is_stop result }
+        ensures again { OnAgain result (round_of (view_of self.new) ≡ round_of (view_of self.old) + 1) }
+        ensures uncast { OnAgain result (self.new.cast ≡ None) }
+        ensures not_idle { OnAgain result (self.new.idle ≡ false) }
+        ensures last_round { OnStop result (round_of (view_of self.new) ≡ round_of (view_of self.old)) }
+        ensures last_vote { OnStop result (self.new.cast ≡ self.old.cast) }
+        ensures same_own { (part_in self.new).rank ≡ (part_in self.old).rank }
+        ensures same_size { (part_in self.new).ranks ≡ (part_in self.old).ranks }
+    {
         match self.stage {
             Stage::Up => self.begin_round(Stage::Down),
             Stage::Down => {
@@ -157,7 +177,7 @@ impl Program for Dense {
             }
             Stage::Hook => {
                 self.tables.end_phase();
-                let (first, past) = self.labels_of(self.rank);
+                let (first, past) = self.own_labels();
                 self.tables.begin_phase(first, past);
                 self.phases.count();
                 self.begin_round(Stage::Up)
