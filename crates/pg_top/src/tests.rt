@@ -20,6 +20,8 @@ const PATH: &str = "3 2\n2\n1 3\n2\n";
 
 const MESH: &str = "7 11\n5 3 2\n1 3 4\n5 4 2 1\n2 3 6 7\n1 3 6\n5 4 7\n6 4\n";
 
+const STAR: &str = "6 5\n2 3 4 5 6\n1\n1\n1\n1\n1\n";
+
 const WEIGHTED: &str = "4 2 1\n2 5\n1 5 3 2\n2 2\n\n";
 
 const LONG_PATH: &str = "6 5\n2\n1 3\n2 4\n3 5\n4 6\n5\n";
@@ -313,6 +315,7 @@ fn no_name_is_begun_but_that_of_the_plan(rt: HostRuntime) -> Result<(), Fail> {
         ("components B ", 1),
         ("forest B ", 1),
         ("forest B --source 1 ", 0),
+        ("colour B ", 1),
     ] {
         let file = Vec::from_slice(alloc, PATH.as_bytes())?;
         let files = vec![in alloc; (String::from_str(alloc, "B")?, file)]?;
@@ -431,6 +434,82 @@ fn a_failed_write_leaves_a_front_of_a_forest(rt: HostRuntime) -> Result<(), Fail
         assert_eq!(rt; seen.status, Status::WriteFault);
         assert_eq!(rt; seen.out.text(), text.as_bytes());
         assert_eq!(rt; seen.errs.text(), b"cannot write\n".as_slice());
+    }
+    Ok(())
+}
+
+#[test]
+fn one_rank_colours_by_first_fit(rt: HostRuntime) -> Result<(), Fail> {
+    let alloc = rt.alloc();
+    for (file, text) in [
+        (PATH, "0\n1\n0\n"),
+        (WEIGHTED, "0\n1\n0\n0\n"),
+        (MESH, "0\n1\n2\n0\n1\n2\n1\n"),
+        (STAR, "0\n1\n1\n1\n1\n1\n"),
+        ("0 0\n", ""),
+    ] {
+        let words = ["colour", "B", "--threads", "2"];
+        let seen = run(&rt, &words, file, Vec::new(alloc), Vec::new(alloc))?;
+        assert_eq!(rt; seen.status, Status::Ok);
+        assert_eq!(rt; seen.out.text(), text.as_bytes());
+    }
+    Ok(())
+}
+
+/// The edges of the mesh.
+const MESH_EDGES: [(usize, usize); 11] = [
+    (1, 2),
+    (1, 3),
+    (1, 5),
+    (2, 3),
+    (2, 4),
+    (3, 4),
+    (3, 5),
+    (4, 6),
+    (4, 7),
+    (5, 6),
+    (6, 7),
+];
+
+/// Whether the ends of each of the mesh's edges have lines of different colours, each of one digit.
+fn is_proper(text: &[u8]) -> bool {
+    let mut apart = text.len() == 14;
+    for (u, v) in MESH_EDGES {
+        apart = apart && text.get(u * 2 - 2) != text.get(v * 2 - 2);
+    }
+    apart
+}
+
+#[test]
+fn no_edge_has_one_colour_on_any_number_of_ranks(rt: HostRuntime) -> Result<(), Fail> {
+    let alloc = rt.alloc();
+    for ranks in ["1", "2", "3", "7", "32"] {
+        for capacity in ["1", "1024"] {
+            let words = ["colour", "B", "--ranks", ranks, "--capacity", capacity];
+            let seen = run(&rt, &words, MESH, Vec::new(alloc), Vec::new(alloc))?;
+            assert_eq!(rt; seen.status, Status::Ok);
+            assert!(rt; is_proper(seen.out.text()), "{ranks} {capacity}");
+        }
+    }
+    Ok(())
+}
+
+#[test]
+fn colours_go_by_the_owners_of_a_partition_file(rt: HostRuntime) -> Result<(), Fail> {
+    let alloc = rt.alloc();
+    for parts in ["0\n1\n3\n0\n1\n3\n0\n", "3\n3\n3\n0\n0\n0\n0\n"] {
+        let named = [("B", MESH), ("P", parts)];
+        let words = words_of(alloc, "colour B --ranks 4 --parts P ")?;
+        let seen = run_over(
+            &rt,
+            &words,
+            &named,
+            Vec::new(alloc),
+            Vec::new(alloc),
+            &OpenGate,
+        )?;
+        assert_eq!(rt; seen.status, Status::Ok);
+        assert!(rt; is_proper(seen.out.text()), "{parts}");
     }
     Ok(())
 }
