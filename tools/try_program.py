@@ -5,8 +5,10 @@ status that it ends with.
     python3 tools/try_program.py [--pbgl PATH]
 
 Three lists of runs: one or more for each status that files and streams can bring about (0, 2, 3, 4, 5, 6 and 8);
-each command that README.md shows, against what it shows there; each file of examples/ that holds an answer. One
-line for each run that differs; the last line is `N passed, M failed`, and the status is 1 if any failed.
+each command that README.md shows, against what it shows there; each file of examples/ that holds an answer, also over
+ranks, threads, capacities and a partition file. Colours of more than one rank are looked at for edges with one colour at
+both ends, and for colours above a vertex's degree. One line for each run that differs; the last line is
+`N passed, M failed`, and the status is 1 if any failed.
 
 Without --pbgl it runs bin/pbgl, which proves and builds the program first where it isn't current.
 """
@@ -24,6 +26,7 @@ FILES = {
     "-A": "2 1\n2\n1\n",
     "broken": "3 1\n2\n3\n\n",
     "empty": "",
+    "none": "0 0\n",
     "owners": "0\n1\n3\n0\n",
 }
 
@@ -42,7 +45,9 @@ RUNS = [
     ("bfs A --source -- 1", 2, "", "bad words\n"),
     ("sssp A --source 1 --delta 0", 2, "", "bad words\n"),
     ("components A --source 1", 2, "", "bad words\n"),
-    ("forest A", 2, "", "bad words\n"),
+    ("forest A --source 1", 2, "", "bad words\n"),
+    ("colour A --delta 4", 2, "", "bad words\n"),
+    ("grid --width 2 --height 2 --seed 7", 2, "", "bad words\n"),
     ("sssp A --source 1", 0, "0\n5\n7\n-\n", ""),
     ("sssp A --source 1 --delta 1 --ranks 3 --threads 2", 0, "0\n5\n7\n-\n", ""),
     ("components A", 0, "1\n1\n1\n4\n", ""),
@@ -52,6 +57,15 @@ RUNS = [
     ("bfs A --source 9 --ranks 3 --parts owners", 4, "", "parts line 3: OutOfRange\n"),
     ("bfs A --source 9 --ranks 4 --parts owners", 8, "", "source 9: not in the graph\n"),
     ("components A --parts missing", 5, "", "cannot read\n"),
+    ("forest A", 0, "1 2 5\n2 3 2\ntotal 7\n", ""),
+    ("forest A --ranks 2 --threads 1 --capacity 1", 0, "1 2 5\n2 3 2\ntotal 7\n", ""),
+    ("forest A --ranks 4 --parts owners", 0, "1 2 5\n2 3 2\ntotal 7\n", ""),
+    ("forest none", 0, "total 0\n", ""),
+    ("forest broken", 3, "", "line 2: NoMirror\n"),
+    ("forest A --ranks 3 --parts owners", 4, "", "parts line 3: OutOfRange\n"),
+    ("colour A", 0, "0\n1\n0\n0\n", ""),
+    ("colour none --ranks 3", 0, "", ""),
+    ("colour missing", 5, "", "cannot read\n"),
     ("bfs A --source 1 --ranks 1", 0, "0\n1\n2\n-\n", ""),
     ("bfs A --source 1 --ranks 32 --capacity 1", 0, "0\n1\n2\n-\n", ""),
     ("bfs A --source 1 --ranks 4 --threads 4 --capacity 1", 0, "0\n1\n2\n-\n", ""),
@@ -70,9 +84,14 @@ RUNS = [
 FULL_RUNS = [
     ("bfs A --source 1", 6, None, "cannot write\n"),
     ("bfs A --source 1", 6, None, None),
+    ("forest A", 6, None, "cannot write\n"),
     ("bfs broken --source 1", 3, "", None),
     ("bfs A --source 0", 8, None, "source 0: not in the graph\n"),
 ]
+
+
+# By which ranks, threads and lanes each example is run besides.
+CREWS = ["--threads 2", "--ranks 2 --threads 1", "--ranks 3 --capacity 1 --threads 2", "--ranks 7", "--ranks 32 --threads 4"]
 
 
 def run(program, words, folder, out=subprocess.PIPE, errs=subprocess.PIPE):
@@ -141,18 +160,45 @@ def example_words(path):
     return [algorithm, stem + ".graph"] + (["--source", source] if source else [])
 
 
+def example_crews(path):
+    """By which ranks, threads, lanes and partition files an example's graph is run besides, each as a list of words."""
+    yield from (line.split() for line in CREWS)
+    parts = os.path.splitext(path)[0] + ".parts"
+    if os.path.exists(parts):
+        yield ["--ranks", "3", "--parts", parts]
+
+
+def edges_of(path):
+    """The edges of an example's graph, which may have comments and the weights of edges."""
+    with open(path, encoding="utf-8") as file:
+        lines = [line.split() for line in file if not line.startswith("%")]
+    step = 2 if lines[0][2:] == ["1"] else 1
+    return {(v, int(w)) for v, line in enumerate(lines[1:], 1) for w in line[::step]}
+
+
+def improper(path, done):
+    """What is wrong with the colours of an example's graph, as a text, or nothing."""
+    status, out, errs = done
+    colours, edges = [int(line) for line in out.split()], edges_of(path)
+    if status or errs or any(max(v, w) > len(colours) for v, w in edges):
+        return "status %r, colours %r, standard error %r" % (status, out, errs)
+    clashes = [edge for edge in edges if colours[edge[0] - 1] == colours[edge[1] - 1]]
+    high = [v for v, colour in enumerate(colours, 1) if colour > sum(edge[0] == v for edge in edges)]
+    return "edges of one colour %r, colours above the degree at %r" % (clashes, high) if clashes or high else ""
+
+
 def try_examples(program):
-    """Each answer that stands beside an example's graph, also over three ranks and by a partition file if there is one."""
-    for algorithm in ("bfs", "sssp", "components"):
+    """Each answer that stands beside an example's graph, on one rank and over others."""
+    for algorithm in ("bfs", "sssp", "components", "forest", "colour"):
         for path in sorted(glob.glob(os.path.join(TOP, "examples", "*.%s*" % algorithm))):
             with open(path, encoding="utf-8") as file:
                 wanted = (0, file.read(), "")
-            words = example_words(path)
-            yield os.path.relpath(path, TOP), difference(wanted, run(program, words, TOP))
-            words += ["--ranks", "3"]
-            parts = words[1][:-len(".graph")] + ".parts"
-            words += ["--parts", parts] if os.path.exists(parts) else []
-            yield os.path.relpath(path, TOP) + " over ranks", difference(wanted, run(program, words, TOP))
+            words, name = example_words(path), os.path.relpath(path, TOP)
+            yield name, difference(wanted, run(program, words, TOP))
+            for crew in example_crews(path):
+                done = run(program, words + crew, TOP)
+                wrong = improper(words[1], done) if algorithm == "colour" else difference(wanted, done)
+                yield "%s %s" % (name, " ".join(crew)), wrong
 
 
 def main():

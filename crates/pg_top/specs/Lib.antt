@@ -1,5 +1,8 @@
 pub mod Examples
+pub mod Answered
+pub mod Coloured
 pub mod Files
+pub mod Grown
 pub mod Distributions
 pub mod Run
 pub mod Text
