@@ -1,9 +1,10 @@
 //! Forests of one to three ranks, driven through their ports by hand.
-ghost use Rattle.std.specs.Prelude.{IfOk, length, ◌≡◌, ◌≤◌, ◌∷◌, [], replicate};
+ghost use Rattle.std.specs.Prelude.{IfOk, length, ◌≡◌, ◌≤◌, ◌∷◌, [], false, replicate};
 ghost use Rattle.pg_base.specs.Graph.{IsGraph};
 ghost use Rattle.pg_base.specs.Examples.{edge, graph};
 ghost use Rattle.pg_group.specs.Entries.{Each};
 ghost use Rattle.pg_group.specs.Supersteps.{AreUnmarked};
+ghost use Rattle.pg_boruvka.specs.Known.{part_in};
 
 use super::*;
 use pg_adj::{Part, split};
@@ -21,8 +22,8 @@ type Seat = Site<Port<Message, RingLanes>>;
 struct Site<M: Mailbox<Message>> {
     dense: Dense,
     port: M,
-    ghost own: { M.own port ≡ dense.rank.0 },
-    ghost size: { M.size port ≡ dense.ranks },
+    ghost own: { M.own port ≡ (part_in dense).rank },
+    ghost size: { M.size port ≡ (part_in dense).ranks },
     ghost unmarked: { AreUnmarked (M.marks_sent port) },
 }
 
@@ -115,7 +116,8 @@ impl<M: Mailbox<Message>> Site<M> {
             return Err("no votes of a round");
         }
         let mine = votes[self.dense.rank.0 as usize];
-        match self.dense.cast {
+        let cast = self.dense.cast;
+        match cast {
             Some(cast) if cast == mine => Ok(self.dense.round_end(votes)),
             _ => Err("another vote"),
         }
