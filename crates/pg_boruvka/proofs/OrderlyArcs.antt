@@ -10,9 +10,9 @@ use Rattle.pg_boruvka.specs.declared.TheConstants.{NO_KEY}
 use Rattle.pg_boruvka.specs.declared.arcs.DenseArc.{DenseArc}
 use Rattle.pg_boruvka.specs.Parts.{LocalArc}
 use Rattle.pg_boruvka.specs.Portions.{arcs_below, local_of}
-use Rattle.pg_boruvka.specs.Arcs.{local, locals}
+use Rattle.pg_boruvka.specs.Arcs.{local, locals, IsInTables}
 use Rattle.pg_boruvka.specs.Orderly.{IsOrderly}
-use Rattle.pg_boruvka.proofs.Items.{member_of_map}
+use Rattle.pg_boruvka.proofs.Items.{member_of_map, mapped_member}
 use Rattle.pg_boruvka.proofs.Divisions.{IsOfPlace, of_place}
 
 module _ (p : Portion) (arcs : List DenseArc) (is : IsPortion p) (same : locals arcs ≡ arcs_below p (length p.vertices)) (small : All (λ a. a.weight < 2 ^ 32) arcs) where
@@ -42,3 +42,16 @@ module _ (p : Portion) (arcs : List DenseArc) (is : IsPortion p) (same : locals 
 
   pub orderly_arcs : All (IsOrderly p.n) (arcs_below p (length p.vertices))
   orderly_arcs i d h = orderly_at (get_or (arcs_below p (length p.vertices)) i d) (Contains-get_or (arcs_below p (length p.vertices)) i d h)
+
+-- Arcs that lie between vertices, and whose edges are some of so many, have entries in the tables.
+pub in_tables : (p : Portion) (arcs : List DenseArc) (edges : ℕ) → locals arcs ≡ arcs_below p (length p.vertices) → All (IsOrderly p.n) (arcs_below p (length p.vertices))
+    → All (λ a. a.edge < edges) (arcs_below p (length p.vertices)) → All (IsInTables (p.n + 1) edges) arcs
+in_tables p arcs edges same orderly within i d h =
+    let x : DenseArc = get_or arcs i d in
+    let there : Contains (arcs_below p (length p.vertices)) (local x) = subst (λ (l : List LocalArc). Contains l (local x)) same (mapped_member local arcs x (Contains-get_or arcs i d h)) in
+    let o = All-contains (IsOrderly p.n) (arcs_below p (length p.vertices)) (local x) orderly there in
+    record {
+      from = omega (arith, o.from.last);
+      to = omega (arith, o.to.last);
+      edge = All-contains (λ (a : LocalArc). a.edge < edges) (arcs_below p (length p.vertices)) (local x) within there;
+    }

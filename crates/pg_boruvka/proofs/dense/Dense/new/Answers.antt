@@ -7,7 +7,7 @@ use Rattle.pg_boruvka.specs.Arcs.{IsInTables, locals, is_apart, AreLeasts}
 use Rattle.pg_boruvka.specs.Orderly.{IsOrderly}
 use Rattle.pg_boruvka.specs.Portions.{arcs_below}
 use Rattle.pg_boruvka.specs.Known.{view_of}
-use Rattle.pg_boruvka.proofs.OrderlyArcs.{orderly_arcs}
+use Rattle.pg_boruvka.proofs.OrderlyArcs.{orderly_arcs, in_tables}
 use Rattle.pg_boruvka.proofs.NewViews.{new_view}
 use Rattle.pg_boruvka.proofs.Regular.{regular_of}
 use Rattle.pg_boruvka.proofs.dense.Dense.new.Goals as goal
@@ -15,7 +15,8 @@ use Rattle.pg_boruvka.proofs.dense.Dense.new.Goals as goal
 pub new-requires-clause-ends : goal.new-requires-clause-ends
 new-requires-clause-ends c =
     let said = c.in_ok-arcs.ensures in
-    subst (λ (n : ℕ). All (IsInTables (n + 1) c.args.edges) c.in_ok-arcs.arcs.items) (sym c.n-n.ensures.value) (said.ends c.args.edges c.requires.each)
+    subst (λ (n : ℕ). All (IsInTables (n + 1) c.args.edges) c.in_ok-arcs.arcs.items) (sym c.n-n.ensures.value)
+    (in_tables c.args.part c.in_ok-arcs.arcs.items c.args.edges said.locals (orderly_arcs c.args.part c.in_ok-arcs.arcs.items c.n-n.ensures.portion said.locals said.small) c.requires.each)
 
 pub invariant_of-dense : goal.invariant_of-dense
 invariant_of-dense c =
