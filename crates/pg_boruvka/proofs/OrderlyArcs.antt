@@ -1,7 +1,7 @@
 -- The arcs of a rank's part lie between vertices, and their keys are less than what stands for none.
-use Rattle.std.proofs.Common.{◌≡◌, ℕ, ◌+◌, ◌-◌, ◌*◌, ◌^◌, ◌<◌, ◌≤◌, List, length, get_or, drop, sym, ◌∙◌, ap, subst, arith, All, Contains}
+use Rattle.std.proofs.Common.{◌≡◌, ℕ, suc, map, ◌+◌, ◌-◌, ◌*◌, ◌^◌, ◌<◌, ◌≤◌, List, length, get_or, drop, sym, ◌∙◌, ap, subst, arith, All, Contains}
 use Rattle.std.specs.Prelude.{slice_index, slice_range}
-use Rattle.std.proofs.lemmas.List.Elements.{All-contains, All-take, All-drop, Contains-get_or}
+use Rattle.std.proofs.lemmas.List.Elements.{All-append, All-contains, All-drop, All-map, All-take, Contains-get_or}
 use Rattle.pg_base.specs.declared.TheConstants.{MAX_EDGES}
 use Rattle.pg_base.specs.Keyed.{row_of}
 use Rattle.pg_adj.specs.declared.arcs.Arc.{Arc}
@@ -55,3 +55,11 @@ in_tables p arcs edges same orderly within i d h =
       to = omega (arith, o.to.last);
       edge = All-contains (λ (a : LocalArc). a.edge < edges) (arcs_below p (length p.vertices)) (local x) within there;
     }
+
+-- The arcs of one place more.
+pub below_more : (p : Portion) (place edges : ℕ) → All (λ a. a.edge < edges) (arcs_below p place) → All (λ a. a.edge < edges) (row_of p.bounds p.arcs place) → All (λ a. a.edge < edges) (arcs_below p (place + 1))
+below_more p place edges before row =
+    let more : suc place ≡ place + 1 = omega arith in
+    subst (λ (k : ℕ). All (λ (a : LocalArc). a.edge < edges) (arcs_below p k)) more
+    (All-append (λ (a : LocalArc). a.edge < edges) (arcs_below p place) (map (local_of (slice_index p.vertices place)) (row_of p.bounds p.arcs place)) before
+    (All-map (λ (a : LocalArc). a.edge < edges) (local_of (slice_index p.vertices place)) (row_of p.bounds p.arcs place) row))
