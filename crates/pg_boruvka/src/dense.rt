@@ -5,11 +5,10 @@ ghost use Rattle.pg_adj.specs.Portions.{IsPortion};
 ghost use Rattle.pg_boruvka.specs.Portions.{arcs_below};
 ghost use Rattle.pg_boruvka.specs.Orderly.{IsOrderly};
 
-use crate::Phases;
 use crate::arcs::arcs_of;
 use crate::blocks::{count_labels, first_label};
-use crate::chosen;
 use crate::tables::Tables;
+use crate::{Phases, chosen};
 use pg_adj::Part;
 use pg_base::{OutOfMemory, RankNo, Ranks};
 use pg_group::Vote;

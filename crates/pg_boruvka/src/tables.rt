@@ -124,12 +124,7 @@ impl Tables {
         ensures begun { AreBegun self.new.keys.items first past self.new.winners.items }
         ensures rest { known_in self.new ≡ with_winners (known_in self.old) self.new.winners.items }
     {
-        winners::begin(
-            &mut self.winners,
-            &self.keys,
-            first as usize,
-            past as usize,
-        );
+        winners::begin(&mut self.winners, &self.keys, first as usize, past as usize);
     }
 
     // Unhooks all labels.
@@ -170,8 +165,7 @@ impl Tables {
         ensures rest { known_in self.new ≡ with_hooks (known_in self.old) self.new.hooks.targets.items self.new.hooks.edges.items }
     {
         self.clear_hooks();
-        self.hooks
-            .note_own(&self.keys, &self.across, &self.winners);
+        self.hooks.note_own(&self.keys, &self.across, &self.winners);
     }
 
     /// Chooses the edges of the hooks, and moves the labels along their pointers.

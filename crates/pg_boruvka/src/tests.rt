@@ -334,7 +334,8 @@ fn numbers_out_of_range_change_nothing(rt: HostRuntime) -> Result<(), Fail> {
     let mut sites = sites(alloc, &path(alloc)?, 2, 64)?;
     for base in [5, u32::MAX, u32::MAX - 7] {
         let piece = Piece { base, keys: [0; 8] };
-        sites[0].handle(RankNo(1), Message::Piece(piece))?;
+        let left = sites.get_mut(0).ok_or("no first site")?;
+        left.handle(RankNo(1), Message::Piece(piece))?;
     }
     assert!(rt; !round(alloc, &mut sites)?);
     assert!(rt; !round(alloc, &mut sites)?);
@@ -344,9 +345,12 @@ fn numbers_out_of_range_change_nothing(rt: HostRuntime) -> Result<(), Fail> {
             target,
             edge,
         };
-        sites[0].handle(RankNo(1), Message::Hook(hook))?;
+        let left = sites.get_mut(0).ok_or("no first site")?;
+        left.handle(RankNo(1), Message::Hook(hook))?;
     }
     run(alloc, &mut sites)?;
-    assert_eq!(rt; sites[0].dense.edges(alloc)?.as_slice(), [0, 1].as_slice());
+    for site in &sites {
+        assert_eq!(rt; site.dense.edges(alloc)?.as_slice(), [0, 1].as_slice());
+    }
     Ok(())
 }
