@@ -203,16 +203,17 @@ module _ (part : Part) (label : ℕ → ℕ) (win : ℕ → ℕ) where
         let b = hooks_by_best part.n h c in
         let vertex : IsVertex part.n h.source = record { first = b.first; last = b.last } in
         let key : slice_index keys h.source ≡ (b.arc).key = leasts.key h.source (inside h.source vertex) ∙ ap key_of b.best in
-        let small = (orderly b.arc (among b.arc b.best)).key in
-        (vertex,
+        let small = (orderly b.arc (among b.arc b.best)).key in (
+          vertex,
           won_hook h.source (slice_index keys h.source) (slice_index across h.source) (slice_index winners h.source) (λ none. omega (arith, key, small, none)) (omega (arith, key, b.key, wins h.source vertex))
-          ∙ ap (λ (x : Hook). Some x) ((λ i. record {
-            source = h.source;
-            target = leasts.across h.source b.arc (inside h.source vertex) b.best i;
-            edge = leasts.edge h.source b.arc (inside h.source vertex) b.best i;
-          }) ∙ sym b.is)) where
-      among : (a : LocalArc) → best_arc part label h.source ≡ Some a → Contains part.arcs a
-      among a is = (subst (IsBestArc part label h.source) is (best_arc_is part label h.source)).0.among
+              ∙ ap (λ (x : Hook). Some x) ((λ i. record {
+                source = h.source;
+                target = leasts.across h.source b.arc (inside h.source vertex) b.best i;
+                edge = leasts.edge h.source b.arc (inside h.source vertex) b.best i;
+              }) ∙ sym b.is),
+        ) where
+          among : (a : LocalArc) → best_arc part label h.source ≡ Some a → Contains part.arcs a
+          among a is = (subst (IsBestArc part label h.source) is (best_arc_is part label h.source)).0.among
 
 -- A view whose lists have an entry for each label and one before them, and whose arcs are between vertices.
 pub record IsRegular (v : View) : Type 0 where
@@ -256,24 +257,33 @@ module _ (far : ℕ) (handled sent : List (List (Body Message))) (v : View) (reg
   at_due : v.ended ≡ false → AreSoundBefore far v.part handled v.phase → (s : Stage) → v.stage ≡ s → (to number : ℕ) (m : Message) → IsOther v.part.rank v.part.ranks to
       → IsIn v s to number m → IsDue far v.part handled (3 * v.phase + stage_no s) to m
   at_due running sound stage.Up is to number m other at =
-      inl (omega arith, subst (λ (q : ℕ). IsBestKeys far v.part handled q to m) (omega arith)
-      (numbered_of (own_key v.part phase_label) (first_label v.part to) (labels_of v.part to) number m
-      (numbered_same (slice_index v.known.keys) (own_key v.part phase_label) (first_label v.part to) (labels_of v.part to) number m
-      (λ l between. key_is sound l (block_within v.part to l other.0 between)) at)))
+      inl (
+        omega arith,
+        subst (λ (q : ℕ). IsBestKeys far v.part handled q to m) (omega arith)
+            (numbered_of (own_key v.part phase_label) (first_label v.part to) (labels_of v.part to) number m
+            (numbered_same (slice_index v.known.keys) (own_key v.part phase_label) (first_label v.part to) (labels_of v.part to) number m
+            (λ l between. key_is sound l (block_within v.part to l other.0 between)) at)),
+      )
   at_due running sound stage.Down is to number m other at =
-      inr (inl (omega arith, subst (λ (q : ℕ). IsWinners far v.part handled q m) (omega arith)
-      (numbered_of (winner v.part handled phase_label v.phase) (first_label v.part v.part.rank) (labels_of v.part v.part.rank) number m
-      (numbered_same (slice_index v.known.winners) (winner v.part handled phase_label v.phase) (first_label v.part v.part.rank) (labels_of v.part v.part.rank) number m
-      (λ l between. winner_is running sound l (block_within v.part v.part.rank l regular.rank between)) at))))
+      inr (inl (
+        omega arith,
+        subst (λ (q : ℕ). IsWinners far v.part handled q m) (omega arith)
+            (numbered_of (winner v.part handled phase_label v.phase) (first_label v.part v.part.rank) (labels_of v.part v.part.rank) number m
+            (numbered_same (slice_index v.known.winners) (winner v.part handled phase_label v.phase) (first_label v.part v.part.rank) (labels_of v.part v.part.rank) number m
+            (λ l between. winner_is running sound l (block_within v.part v.part.rank l regular.rank between)) at)),
+      ))
   at_due running sound stage.Hook is to number m other at =
-      inr (inr (omega arith, subst (λ (q : ℕ). IsOwnHook far v.part handled q m) (omega arith)
-      (record {
-        hook = at.hook;
-        among = subst (λ (x : List Hook). Contains x at.hook) (own_hooks_are sound)
-            (won_is_own v.part (label_of v) (winner v.part handled (label_of v) v.phase) v.known.keys v.known.across v.known.winners keeps.gathered.leasts regular.keys regular.orderly
-            (keeps.winners running) number at.hook at.label at.own);
-        is = at.is;
-      })))
+      inr (inr (
+        omega arith,
+        subst (λ (q : ℕ). IsOwnHook far v.part handled q m) (omega arith)
+            (record {
+              hook = at.hook;
+              among = subst (λ (x : List Hook). Contains x at.hook) (own_hooks_are sound)
+                  (won_is_own v.part (label_of v) (winner v.part handled (label_of v) v.phase) v.known.keys v.known.across v.known.winners keeps.gathered.leasts regular.keys regular.orderly
+                  (keeps.winners running) number at.hook at.label at.own);
+              is = at.is;
+            }),
+      ))
 
   -- A message of this round with a number is due.
   pub is_due : v.cast ≡ None → (to number : ℕ) (m : Message) → IsOther v.part.rank v.part.ranks to → IsAt v to number m
@@ -284,19 +294,21 @@ module _ (far : ℕ) (handled sent : List (List (Body Message))) (v : View) (reg
   due_at : v.ended ≡ false → AreSoundBefore far v.part handled v.phase → (s : Stage) → (to : ℕ) (m : Message) → IsOther v.part.rank v.part.ranks to
       → IsDue far v.part handled (3 * v.phase + stage_no s) to m → (number : ℕ) × IsIn v s to number m
   due_at running sound stage.Up to m other (inl first) =
-      let best : IsBestKeys far v.part handled v.phase to m = subst (λ (q : ℕ). IsBestKeys far v.part handled q to m) (omega arith) first.1 in
-      (best.offset / 8,
+      let best : IsBestKeys far v.part handled v.phase to m = subst (λ (q : ℕ). IsBestKeys far v.part handled q to m) (omega arith) first.1 in (
+        best.offset / 8,
         numbered_same (own_key v.part phase_label) (slice_index v.known.keys) (first_label v.part to) (labels_of v.part to) (best.offset / 8) m
-        (λ l between. sym (key_is sound l (block_within v.part to l other.0 between))) (of_numbered (own_key v.part phase_label) (first_label v.part to) (labels_of v.part to) m best))
+            (λ l between. sym (key_is sound l (block_within v.part to l other.0 between))) (of_numbered (own_key v.part phase_label) (first_label v.part to) (labels_of v.part to) m best),
+      )
   due_at running sound stage.Up to m other (inr (inl second)) = absurd (omega (arith, second.0))
   due_at running sound stage.Up to m other (inr (inr third)) = absurd (omega (arith, third.0))
   due_at running sound stage.Down to m other (inl first) = absurd (omega (arith, first.0))
   due_at running sound stage.Down to m other (inr (inl second)) =
-      let best : IsWinners far v.part handled v.phase m = subst (λ (q : ℕ). IsWinners far v.part handled q m) (omega arith) second.1 in
-      (best.offset / 8,
+      let best : IsWinners far v.part handled v.phase m = subst (λ (q : ℕ). IsWinners far v.part handled q m) (omega arith) second.1 in (
+        best.offset / 8,
         numbered_same (winner v.part handled phase_label v.phase) (slice_index v.known.winners) (first_label v.part v.part.rank) (labels_of v.part v.part.rank) (best.offset / 8) m
-        (λ l between. sym (winner_is running sound l (block_within v.part v.part.rank l regular.rank between)))
-        (of_numbered (winner v.part handled phase_label v.phase) (first_label v.part v.part.rank) (labels_of v.part v.part.rank) m best))
+            (λ l between. sym (winner_is running sound l (block_within v.part v.part.rank l regular.rank between)))
+            (of_numbered (winner v.part handled phase_label v.phase) (first_label v.part v.part.rank) (labels_of v.part v.part.rank) m best),
+      )
   due_at running sound stage.Down to m other (inr (inr third)) = absurd (omega (arith, third.0))
   due_at running sound stage.Hook to m other (inl first) = absurd (omega (arith, first.0))
   due_at running sound stage.Hook to m other (inr (inl second)) = absurd (omega (arith, second.0))

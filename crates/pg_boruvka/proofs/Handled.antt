@@ -58,9 +58,9 @@ items_grown k (list ∷ lists) (suc from) m here at =
       was = ap (λ (l : List Message). items_of_round k list ++ l) rest.was ∙ grouped (items_of_round k list) rest.before rest.after;
       is = ap (λ (l : List Message). items_of_round k list ++ l) rest.is ∙ grouped (items_of_round k list) rest.before (m ∷ rest.after);
     } where
-  grouped : (xs ys zs : List Message) → xs ++ (ys ++ zs) ≡ (xs ++ ys) ++ zs
-  grouped [] ys zs = refl
-  grouped (x ∷ xs) ys zs = ap (λ (l : List Message). x ∷ l) (grouped xs ys zs)
+      grouped : (xs ys zs : List Message) → xs ++ (ys ++ zs) ≡ (xs ++ ys) ++ zs
+      grouped [] ys zs = refl
+      grouped (x ∷ xs) ys zs = ap (λ (l : List Message). x ∷ l) (grouped xs ys zs)
 
 other_round : (k : ℕ) (list : List (Body Message)) (m : Message) → (marks list ≡ k → ⊥) → items_of_round k (list ++ Item m ∷ []) ≡ items_of_round k list
 other_round k list m apart = ⊎_elim
@@ -81,8 +81,8 @@ least_in l [] after m = omega arith
 least_in l (o ∷ before) after m =
     let rest = least_in l before after m in
     ap (min (given_key l o)) rest ∙ grouped (given_key l o) (least (given_keys l (before ++ after))) (given_key l m) where
-  grouped : (a b c : ℕ) → min a (min b c) ≡ min (min a b) c
-  grouped a b c = omega arith
+      grouped : (a b c : ℕ) → min a (min b c) ≡ min (min a b) c
+      grouped a b c = omega arith
 
 pub least_grown : (l : ℕ) (m : Message) (old new : List Message) → Grown m old new → least (given_keys l new) ≡ min (least (given_keys l old)) (given_key l m)
 least_grown l m old new grown =

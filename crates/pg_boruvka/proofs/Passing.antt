@@ -199,7 +199,14 @@ module _ (far : ℕ) (handled sent : List (List (Body Message))) (v : View) (kee
     -- The same with a vote.
     abbrev with_cast : Vote → View
     with_cast vote = record {
-      part = v.part; stage = v.stage; phase = v.phase; to = v.to; at = v.at; cast = Some vote; ended = v.ended; known = v.known;
+      part = v.part;
+      stage = v.stage;
+      phase = v.phase;
+      to = v.to;
+      at = v.at;
+      cast = Some vote;
+      ended = v.ended;
+      known = v.known;
     }
 
     no_vote : {X : Type 0} (vote : Vote) → Some vote ≡ None → X

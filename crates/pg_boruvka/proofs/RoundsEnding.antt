@@ -154,8 +154,8 @@ module _ (far : ℕ) (handled sent : List (List (Body Message))) (v : View) (reg
         hooks = λ e is. absurd (down_not_hook is);
         sent_so_far = λ e. fresh (in_stage v stage.Down) refl (omega arith) refl refl;
       } where
-    phase_as : {p : ℕ} → v.phase ≡ p → ArePhase far v.part handled v.phase (label_of v) (marked v.known.chosen) → ArePhase far v.part handled p (label_of v) (marked v.known.chosen)
-    phase_as same are = subst (λ (q : ℕ). ArePhase far v.part handled q (label_of v) (marked v.known.chosen)) same are
+        phase_as : {p : ℕ} → v.phase ≡ p → ArePhase far v.part handled v.phase (label_of v) (marked v.known.chosen) → ArePhase far v.part handled p (label_of v) (marked v.known.chosen)
+        phase_as same are = subst (λ (q : ℕ). ArePhase far v.part handled q (label_of v) (marked v.known.chosen)) same are
 
   abbrev Over : Type 0
   Over = (l : ℕ) → 1 ≤ l → l < length v.known.labels → slice_index v.known.winners l ≡ NO_KEY
@@ -172,7 +172,14 @@ module _ (far : ℕ) (handled sent : List (List (Body Message))) (v : View) (reg
   -- The last round.
   abbrev at_stop : View
   at_stop = record {
-    part = v.part; stage = v.stage; phase = v.phase; to = v.to; at = v.at; cast = v.cast; ended = true; known = v.known;
+    part = v.part;
+    stage = v.stage;
+    phase = v.phase;
+    to = v.to;
+    at = v.at;
+    cast = v.cast;
+    ended = true;
+    known = v.known;
   }
 
   pub stop_keeps : v.stage ≡ stage.Down → Over → HasChosen far ended_round sent at_stop
@@ -262,8 +269,8 @@ module _ (far : ℕ) (handled sent : List (List (Body Message))) (v : View) (reg
           hooks = λ e is. noted_own;
           sent_so_far = λ e. fresh hooked refl (omega arith) refl refl;
         } where
-      phase_as : {p : ℕ} → v.phase ≡ p → ArePhase far v.part handled v.phase (label_of v) (marked v.known.chosen) → ArePhase far v.part handled p (label_of v) (marked v.known.chosen)
-      phase_as same are = subst (λ (q : ℕ). ArePhase far v.part handled q (label_of v) (marked v.known.chosen)) same are
+          phase_as : {p : ℕ} → v.phase ≡ p → ArePhase far v.part handled v.phase (label_of v) (marked v.known.chosen) → ArePhase far v.part handled p (label_of v) (marked v.known.chosen)
+          phase_as same are = subst (λ (q : ℕ). ArePhase far v.part handled q (label_of v) (marked v.known.chosen)) same are
 
   -- From the last round of a phase to the next phase, which knows this.
   module _ (k : Known) (to_chosen : length k.chosen ≡ length v.known.chosen) (first past : ℕ) (at : v.stage ≡ stage.Hook)
@@ -273,7 +280,14 @@ module _ (far : ℕ) (handled sent : List (List (Body Message))) (v : View) (reg
       (each_key : length k.keys ≡ v.part.n + 1) (each_winner : length k.winners ≡ v.part.n + 1) where
     abbrev next : View
     next = record {
-      part = v.part; stage = stage.Up; phase = v.phase + 1; to = 0; at = 0; cast = None; ended = v.ended; known = k;
+      part = v.part;
+      stage = stage.Up;
+      phase = v.phase + 1;
+      to = 0;
+      at = 0;
+      cast = None;
+      ended = v.ended;
+      known = k;
     }
 
     third : stage_no v.stage ≡ 2
@@ -285,9 +299,9 @@ module _ (far : ℕ) (handled sent : List (List (Body Message))) (v : View) (reg
         let o = regular.orderly a c in
         together a.from a.to (omega (arith, o.from.last, regular.labels)) (omega (arith, o.to.last, regular.labels))
         (eqb-true (label_of v a.from) (label_of v a.to) (not-false (label_of v a.from == label_of v a.to) e)) where
-      not-false : (b : Bool) → not b ≡ false → b ≡ true
-      not-false true e = refl
-      not-false false e = cc
+          not-false : (b : Bool) → not b ≡ false → b ≡ true
+          not-false true e = refl
+          not-false false e = cc
 
     still_apart : (a : LocalArc) → Contains v.part.arcs a → is_apart (slice_index k.labels) a ≡ true → is_apart (label_of v) a ≡ true
     still_apart a c e = by_test (is_apart (label_of v) a) refl where
@@ -337,5 +351,5 @@ module _ (far : ℕ) (handled sent : List (List (Body Message))) (v : View) (reg
           hooks = λ e is. absurd (up_not_hook is);
           sent_so_far = λ e. fresh next refl (omega arith) refl refl;
         } where
-      phase_as : {p : ℕ} → v.phase + 1 ≡ p → ArePhase far v.part handled (v.phase + 1) (slice_index k.labels) (marked k.chosen) → ArePhase far v.part handled p (slice_index k.labels) (marked k.chosen)
-      phase_as same are = subst (λ (q : ℕ). ArePhase far v.part handled q (slice_index k.labels) (marked k.chosen)) same are
+          phase_as : {p : ℕ} → v.phase + 1 ≡ p → ArePhase far v.part handled (v.phase + 1) (slice_index k.labels) (marked k.chosen) → ArePhase far v.part handled p (slice_index k.labels) (marked k.chosen)
+          phase_as same are = subst (λ (q : ℕ). ArePhase far v.part handled q (slice_index k.labels) (marked k.chosen)) same are

@@ -60,8 +60,8 @@ module _ (part : Part) (handled : List (List (Body Message))) (label : ℕ → �
       ∙ (ap (min (own_key part label l)) (least_more (3 * p) l at)
       ∙ (grouped (own_key part label l) (least (given_keys l (items_in (3 * p) handled))) (given_key l m)
       ∙ ap (λ (x : ℕ). min x (given_key l m)) (sym (own_winner part handled label p l own)))) where
-    grouped : (a b c : ℕ) → min a (min b c) ≡ min (min a b) c
-    grouped a b c = omega arith
+        grouped : (a b c : ℕ) → min a (min b c) ≡ min (min a b) c
+        grouped a b c = omega arith
 
   pub up_other : (l : ℕ) → marks (list_at handled from) ≡ 3 * p → IsVertex part.n l → (IsOwnLabel part l → ⊥) → winner part more label p l ≡ winner part handled label p l
   up_other l at vertex other =
@@ -313,14 +313,14 @@ module _ (far : ℕ) (handled sent : List (List (Body Message))) (v : View) (fro
             (hooks_of_more v.part handled (label_of v) v.phase from g rank here f at c);
         still = taken.still was.still;
       } where
-    has_one : (f : Hook) → f.source ≡ h.source → noted targets edges f.source ≡ None → (slice_index v.known.edges h.source ≡ NO_EDGE) ⊎ (slice_index v.known.edges h.source ≢ NO_EDGE) → ⊥
-    has_one f same e (inl first) = no_hook (noted targets edges h.source) h ((taken.within is within).first first) (ap (noted targets edges) (sym same) ∙ e)
-    has_one f same e (inr later) =
-        let old : noted v.known.targets v.known.edges h.source ≡ Some (record { source = h.source; target = slice_index v.known.targets h.source; edge = slice_index v.known.edges h.source }) =
-        cond-false (slice_index v.known.edges h.source == NO_EDGE) None (Some (record { source = h.source; target = slice_index v.known.targets h.source; edge = slice_index v.known.edges h.source }))
-        (ne_eqb (slice_index v.known.edges h.source) NO_EDGE later) in
-        no_hook (noted targets edges h.source) (record { source = h.source; target = slice_index v.known.targets h.source; edge = slice_index v.known.edges h.source })
-        ((taken.within is within).later later ∙ old) (ap (noted targets edges) (sym same) ∙ e)
+        has_one : (f : Hook) → f.source ≡ h.source → noted targets edges f.source ≡ None → (slice_index v.known.edges h.source ≡ NO_EDGE) ⊎ (slice_index v.known.edges h.source ≢ NO_EDGE) → ⊥
+        has_one f same e (inl first) = no_hook (noted targets edges h.source) h ((taken.within is within).first first) (ap (noted targets edges) (sym same) ∙ e)
+        has_one f same e (inr later) =
+            let old : noted v.known.targets v.known.edges h.source ≡ Some (record { source = h.source; target = slice_index v.known.targets h.source; edge = slice_index v.known.edges h.source }) =
+            cond-false (slice_index v.known.edges h.source == NO_EDGE) None (Some (record { source = h.source; target = slice_index v.known.targets h.source; edge = slice_index v.known.edges h.source }))
+            (ne_eqb (slice_index v.known.edges h.source) NO_EDGE later) in
+            no_hook (noted targets edges h.source) (record { source = h.source; target = slice_index v.known.targets h.source; edge = slice_index v.known.edges h.source })
+            ((taken.within is within).later later ∙ old) (ap (noted targets edges) (sym same) ∙ e)
   taken_hooks false within running is =
       let at : marks (list_at handled from) ≡ 3 * v.phase + 2 = marks_here far handled sent v from g rank other keeps running ∙ ap (λ (s : Stage). 3 * v.phase + stage_no s) is in
       let here = in_here far handled sent v from g rank other keeps in

@@ -38,12 +38,26 @@ known_in t = record {
 -- The same with other winners, or other hooks.
 abbrev pub with_winners : Known → List ℕ → Known
 with_winners k winners = record {
-  arcs = k.arcs; labels = k.labels; keys = k.keys; across = k.across; winners = winners; targets = k.targets; edges = k.edges; chosen = k.chosen;
+  arcs = k.arcs;
+  labels = k.labels;
+  keys = k.keys;
+  across = k.across;
+  winners = winners;
+  targets = k.targets;
+  edges = k.edges;
+  chosen = k.chosen;
 }
 
 abbrev pub with_hooks : Known → List ℕ → List ℕ → Known
 with_hooks k targets edges = record {
-  arcs = k.arcs; labels = k.labels; keys = k.keys; across = k.across; winners = k.winners; targets = targets; edges = edges; chosen = k.chosen;
+  arcs = k.arcs;
+  labels = k.labels;
+  keys = k.keys;
+  across = k.across;
+  winners = k.winners;
+  targets = targets;
+  edges = edges;
+  chosen = k.chosen;
 }
 
 -- Its part of the graph, its round and vote, which messages it passed, and what it knows.
@@ -80,17 +94,38 @@ view_of d = record {
 -- The same with other knowledge, or with other messages passed, or at the start of a round.
 abbrev pub with_known : View → Known → View
 with_known v known = record {
-  part = v.part; stage = v.stage; phase = v.phase; to = v.to; at = v.at; cast = v.cast; ended = v.ended; known = known;
+  part = v.part;
+  stage = v.stage;
+  phase = v.phase;
+  to = v.to;
+  at = v.at;
+  cast = v.cast;
+  ended = v.ended;
+  known = known;
 }
 
 abbrev pub passed_to : View → ℕ → ℕ → View
 passed_to v to at = record {
-  part = v.part; stage = v.stage; phase = v.phase; to = to; at = at; cast = v.cast; ended = v.ended; known = v.known;
+  part = v.part;
+  stage = v.stage;
+  phase = v.phase;
+  to = to;
+  at = at;
+  cast = v.cast;
+  ended = v.ended;
+  known = v.known;
 }
 
 abbrev pub in_stage : View → Stage → View
 in_stage v s = record {
-  part = v.part; stage = s; phase = v.phase; to = 0; at = 0; cast = None; ended = v.ended; known = v.known;
+  part = v.part;
+  stage = s;
+  phase = v.phase;
+  to = 0;
+  at = 0;
+  cast = None;
+  ended = v.ended;
+  known = v.known;
 }
 
 -- The rounds of a phase, from 0.

@@ -5,11 +5,10 @@ ghost use Rattle.pg_adj.specs.Portions.{IsPortion};
 ghost use Rattle.pg_boruvka.specs.Portions.{arcs_below};
 ghost use Rattle.pg_boruvka.specs.Orderly.{IsOrderly};
 
-use crate::Phases;
 use crate::arcs::arcs_of;
 use crate::blocks::{count_labels, first_label};
-use crate::chosen;
 use crate::tables::Tables;
+use crate::{Phases, chosen};
 use pg_adj::Part;
 use pg_base::{OutOfMemory, RankNo, Ranks};
 use pg_group::Vote;
@@ -63,7 +62,7 @@ impl Dense {
     /// bytes for each arc, 32 for each vertex of the graph, and one for each edge. `OutOfMemory` comes only where memory is wanting.
     pub fn new(alloc: Global, part: Part, edges: u32) -> Result<Dense, OutOfMemory>
         requires few { edges ≤ MAX_EDGES }
-        requires each { All (λ a. a.edge < edges) part.arcs }
+        requires each { All (λ a. a.edge < edges) (part_of edges part).arcs }
         ensures new { IfOk result (λ d. IsNewDense d) }
         ensures part { IfOk result (λ d. part_in d ≡ part_of edges part) }
     {

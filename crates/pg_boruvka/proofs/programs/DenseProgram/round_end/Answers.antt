@@ -42,7 +42,14 @@ returns-else-is_over-clause-kept c = λ start handled sent kept.
     let targets = c.note_own.new.self.hooks.targets.items in
     let edges = c.note_own.new.self.hooks.edges.items in
     let shown : Known → View = λ k. record {
-      part = part_of (length k.chosen) d.part.value; stage = d.stage; phase = count_of d.phases; to = d.to; at = d.at; cast = d.cast; ended = d.ended; known = k;
+      part = part_of (length k.chosen) d.part.value;
+      stage = d.stage;
+      phase = count_of d.phases;
+      to = d.to;
+      at = d.at;
+      cast = d.cast;
+      ended = d.ended;
+      known = k;
     } in
     let view : view_of c.begin_round-in-Down.new.self ≡ in_stage (with_known (view_of d) (with_hooks (known_in d.tables) targets edges)) stage.Hook =
     c.begin_round-in-Down.ensures.begun ∙ ap (λ (k : Known). in_stage (shown k) stage.Hook) c.note_own.ensures.rest in
@@ -65,9 +72,23 @@ returns-in-Hook-clause-kept c = λ start handled sent kept.
     let each : length t.labels.items ≡ d.part.value.n + 1 = ap length begun.same_labels ∙ (ended.same_count ∙ (regular_of d).labels) in
     let phase : count_of c.count.new.self ≡ count_of d.phases + 1 = c.count.ensures in
     let view : view_of c.begin_round-in-Hook.new.self ≡ record {
-      part = part_of (length d.tables.chosen.items) d.part.value; stage = stage.Up; phase = count_of d.phases + 1; to = 0; at = 0; cast = None; ended = d.ended; known = known_in t;
+      part = part_of (length d.tables.chosen.items) d.part.value;
+      stage = stage.Up;
+      phase = count_of d.phases + 1;
+      to = 0;
+      at = 0;
+      cast = None;
+      ended = d.ended;
+      known = known_in t;
     } = c.begin_round-in-Hook.ensures.begun ∙ (λ i. record {
-      part = part_of (same_edges i) d.part.value; stage = stage.Up; phase = phase i; to = 0; at = 0; cast = None; ended = d.ended; known = known_in t;
+      part = part_of (same_edges i) d.part.value;
+      stage = stage.Up;
+      phase = phase i;
+      to = 0;
+      at = 0;
+      cast = None;
+      ended = d.ended;
+      known = known_in t;
     }) in
     record {
       part = ap (λ (v : View). v.part) view ∙ kept.part;
