@@ -1,13 +1,13 @@
 -- Pending places by buckets, and the phases on which ranks agree.
 -- Source: Meyer and Sanders, Delta-stepping: a parallelizable shortest path algorithm (Journal of Algorithms 49, 2003).
-use Rattle.std.specs.Prelude.{◌≡◌, ◌≤◌, ◌==◌, ◌%◌, ◌&&◌, ◌||◌, ℕ, Bool, true, false, not, min, nat_le, nat_lt, if◌then◌else◌, List, slice_index_or}
+use Rattle.std.specs.Prelude.{◌≡◌, ◌+◌, ◌≤◌, ◌==◌, ◌%◌, ◌&&◌, ◌||◌, ℕ, Bool, true, false, not, min, nat_le, nat_lt, if◌then◌else◌, List, slice_index_or}
 use Rattle.std.specs.List.{fold, list_any}
 use Rattle.pg_group.specs.declared.messages.Vote.{Vote}
 use Rattle.pg_agenda.specs.declared.agreements.Agreement.{Agreement}
 use Rattle.pg_agenda.specs.declared.shares.Share.{Share}
 use Rattle.pg_agenda.specs.declared.shares.Share.TheVariants.{Light, Heavy, All}
 use Rattle.pg_agenda.specs.Shares.{Places, NONE}
-use Rattle.pg_agenda.specs.LevelLists.{is_set}
+use Rattle.pg_agenda.specs.LevelLists.{is_any, is_set}
 
 -- the bucket in which the place is pending for its light arcs, or NONE
 abbrev pub bucket_of : List ℕ → ℕ → ℕ
@@ -35,6 +35,11 @@ takes_by delta All w = true
 pub record IsLowest (buckets : List ℕ) (bucket : ℕ) : Type 0 where
   pub lowest : (place : ℕ) → bucket ≤ bucket_of buckets place
   pub stands : (place : ℕ) × (bucket_of buckets place ≡ bucket)
+
+-- The vote names the least bucket of a place, and in `b` whether a message was sent and whether a place is pending for its heavy arcs.
+pub record IsBucketVote (buckets : List ℕ) (heavy : List Bool) (sent : Bool) (vote : Vote) : Type 0 where
+  pub lowest : IsLowest buckets vote.a
+  pub told : vote.b ≡ (if sent then 1 else 0) + (if is_any heavy then 2 else 0)
 
 -- the least bucket that a vote names, or NONE
 abbrev pub least_vote : List Vote → ℕ

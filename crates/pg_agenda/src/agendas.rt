@@ -1,4 +1,5 @@
-ghost use Rattle.std.specs.Prelude.{◌≡◌, ◌≢◌, ◌↔◌, ◌⊎◌, ℕ, ◌%◌, ◌<◌, ◌≤◌, Bool, true, false, IfNone, IfSome};
+ghost use Rattle.std.specs.Prelude.{◌≡◌, ◌≢◌, ◌↔◌, ◌⊎◌, ℕ, ◌%◌, ◌<◌, ◌≤◌, Bool, true, false, List, IfNone, IfSome};
+ghost use Rattle.pg_group.specs.declared.messages.Vote.{Vote};
 ghost use Rattle.pg_agenda.specs.declared.shares.Share.{Share};
 ghost use Rattle.pg_agenda.specs.declared.shares.Share.TheVariants.{Light, Heavy, All};
 ghost use Rattle.pg_agenda.specs.Shares.{AreNone, AreSame, NONE};
@@ -20,6 +21,12 @@ pub trait Agenda {
 
     /// Which share takes an arc, by its weight.
     ghost takes: { Self → Share → ℕ → Bool };
+
+    /// What it votes at the end of a round in which a message was sent, or none.
+    ghost IsVote: { Self → Bool → Vote → Type 0 };
+
+    /// What it has agreed on by the votes of all ranks: the agenda before, and after.
+    ghost HasBegun: { Self → List Vote → Self → Type 0 };
 
     /// Makes a place pending, with this amount.
     fn mark(&mut self, place: u32, amount: u64)
@@ -54,6 +61,7 @@ pub trait Agenda {
 
     /// The vote at the end of a round, in which the agenda's owner sent a message or not.
     fn vote(&mut self, sent: bool) -> Vote
+        ensures form { IsVote self.old sent result }
         ensures odd { (result.b % 2 ≡ 1) ↔ (sent ≡ true) }
         ensures none { result.a ≡ NONE → result.b < 2 → AreNone (pending self.old) }
         ensures c { result.c ≡ 0 }
@@ -64,6 +72,7 @@ pub trait Agenda {
 
     /// Agrees on what is ready from here on, by the votes of all ranks.
     fn begin(&mut self, votes: &[Vote])
+        ensures begun { HasBegun self.old votes.now self.new }
         ensures rests { AreSame (pending self.old) (pending self.new) }
         ensures same_count { count self.new ≡ count self.old }
         ensures same_takes { (share : Share) (w : ℕ) → takes self.new share w ≡ takes self.old share w };

@@ -3,7 +3,7 @@ ghost use Rattle.pg_agenda.specs.Shares.{NONE, AreNone, AreSame};
 ghost use Rattle.pg_agenda.specs.declared.shares.Share.{Share};
 ghost use Rattle.pg_agenda.specs.declared.shares.Share.TheVariants.{Light, Heavy, All};
 ghost use Rattle.pg_agenda.specs.LevelLists.{is_set, is_any};
-ghost use Rattle.pg_agenda.specs.BucketPhases.{bucket_of, by_bucket, ready_by, takes_by, IsLowest, next_agreement};
+ghost use Rattle.pg_agenda.specs.BucketPhases.{bucket_of, by_bucket, ready_by, takes_by, IsBucketVote, IsLowest, next_agreement};
 ghost use Rattle.pg_agenda.specs.BucketQueues.{is_near};
 
 use crate::agreements::Agreement;
@@ -19,9 +19,9 @@ use std::alloc::{AllocError, Global};
 ///
 /// The pending places of 1,024 buckets, the window, stand in a list for each bucket, the others in one far list. `mark`
 /// and `pop` take constant time. `vote` takes a pass over the window's buckets, and one over the far list where the least
-/// bucket may be there and the far place that was known to have it has left it. `begin` takes a pass over the votes; where
-/// the agreed bucket isn't one of the window it moves the window there, in a pass over its buckets and all places that are
-/// pending for light arcs: those of the far list, where the votes have this rank's own and the bucket is a greater one.
+/// bucket may be there and the far place that was known to have it has left it. `begin` takes a pass over the votes. Where
+/// the agreed bucket isn't one of the window, the window moves there, in a pass over its lists and over each place that is
+/// in a bucket; where it moves on to a greater bucket in a run, only the far places are left in one.
 ///
 /// Source: Meyer and Sanders, Delta-stepping: a parallelizable shortest path algorithm (Journal of Algorithms 49, 2003).
 #[derive(Drop)]
@@ -99,8 +99,8 @@ fn buckets_of(alloc: Global, count: u32, delta: u32) -> Result<Buckets, AllocErr
 }
 
 impl Agenda for Buckets {
-    ghost use Rattle.std.specs.Prelude.{length};
-    ghost use Rattle.pg_agenda.specs.BucketPhases.{by_bucket, ready_by, takes_by};
+    ghost use Rattle.std.specs.Prelude.{◌≡◌, length};
+    ghost use Rattle.pg_agenda.specs.BucketPhases.{IsBucketVote, by_bucket, next_agreement, ready_by, takes_by};
 
     ghost count = { λ a. length a.light.buckets.items };
 
@@ -109,6 +109,10 @@ impl Agenda for Buckets {
     ghost ready = { λ a. ready_by a.agreed a.light.buckets.items a.heavy.members.items };
 
     ghost takes = { λ a. takes_by a.delta };
+
+    ghost IsVote = { λ a. IsBucketVote a.light.buckets.items a.heavy.members.items };
+
+    ghost HasBegun = { λ old votes new. new.agreed ≡ next_agreement votes old.agreed };
 
     fn mark(&mut self, place: u32, amount: u64)
         requires place { place < length self.old.light.buckets.items }
@@ -166,6 +170,7 @@ impl Agenda for Buckets {
     }
 
     fn vote(&mut self, sent: bool) -> Vote
+        ensures form { IsBucketVote self.old.light.buckets.items self.old.heavy.members.items sent result }
         ensures odd { (result.b % 2 ≡ 1) ↔ (sent ≡ true) }
         ensures none { result.a ≡ NONE → result.b < 2 → AreNone (by_bucket self.old.light.buckets.items self.old.heavy.members.items) }
         ensures c { result.c ≡ 0 }
@@ -190,6 +195,7 @@ impl Agenda for Buckets {
     }
 
     fn begin(&mut self, votes: &[Vote])
+        ensures begun { self.new.agreed ≡ next_agreement votes.now self.old.agreed }
         ensures rests { AreSame (by_bucket self.old.light.buckets.items self.old.heavy.members.items) (by_bucket self.new.light.buckets.items self.new.heavy.members.items) }
         ensures same_count { length self.new.light.buckets.items ≡ length self.old.light.buckets.items }
         ensures same_takes { (share : Share) (w : ℕ) → takes_by self.new.delta share w ≡ takes_by self.old.delta share w }

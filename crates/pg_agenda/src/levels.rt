@@ -3,7 +3,7 @@ ghost use Rattle.std.specs.Vec.{vec_capacity};
 ghost use Rattle.pg_agenda.specs.Shares.{NONE, AreNone, AreSame, only_all, takes_all};
 ghost use Rattle.pg_agenda.specs.declared.shares.Share.{Share};
 ghost use Rattle.pg_agenda.specs.declared.shares.Share.TheVariants.{Light, Heavy, All};
-ghost use Rattle.pg_agenda.specs.LevelLists.{AreLevels, is_set, is_in};
+ghost use Rattle.pg_agenda.specs.LevelLists.{AreLevels, IsLevelVote, is_set, is_in};
 
 use crate::{Agenda, Share};
 use pg_base::OutOfMemory;
@@ -97,8 +97,8 @@ fn levels_of(alloc: Global, count: usize) -> Result<Levels, AllocError>
 
 impl Agenda for Levels {
     ghost use Rattle.std.specs.Prelude.{length, true};
-    ghost use Rattle.pg_agenda.specs.Shares.{only_all, takes_all};
-    ghost use Rattle.pg_agenda.specs.LevelLists.{is_set, is_in};
+    ghost use Rattle.pg_agenda.specs.Shares.{AreSame, only_all, takes_all};
+    ghost use Rattle.pg_agenda.specs.LevelLists.{IsLevelVote, is_set, is_in};
 
     ghost count = { λ a. length a.pending.items };
 
@@ -107,6 +107,10 @@ impl Agenda for Levels {
     ghost ready = { λ a. only_all (is_in a.this.items) };
 
     ghost takes = { λ _. takes_all };
+
+    ghost IsVote = { λ a. IsLevelVote a.pending.items };
+
+    ghost HasBegun = { λ old votes new. AreSame (only_all (is_set old.pending.items)) (only_all (is_in new.this.items)) };
 
     fn mark(&mut self, place: u32, _amount: u64)
         requires place { place < length self.old.pending.items }
@@ -151,6 +155,7 @@ impl Agenda for Levels {
     }
 
     fn vote(&mut self, sent: bool) -> Vote
+        ensures form { IsLevelVote self.old.pending.items sent result }
         ensures odd { (result.b % 2 ≡ 1) ↔ (sent ≡ true) }
         ensures none { result.a ≡ NONE → result.b < 2 → AreNone (only_all (is_set self.old.pending.items)) }
         ensures c { result.c ≡ 0 }
@@ -172,6 +177,7 @@ impl Agenda for Levels {
     }
 
     fn begin(&mut self, _votes: &[Vote])
+        ensures begun { AreSame (only_all (is_set self.old.pending.items)) (only_all (is_in self.new.this.items)) }
         ensures rests { AreSame (only_all (is_set self.old.pending.items)) (only_all (is_set self.new.pending.items)) }
         ensures same_count { length self.new.pending.items ≡ length self.old.pending.items }
         ensures same_takes { (share : Share) (w : ℕ) → takes_all share w ≡ takes_all share w }

@@ -14,7 +14,7 @@ use Rattle.pg_label.specs.Values.{AtMost, IsWithin, measure, start_value, extend
 use Rattle.pg_best.specs.Best.{Belongs}
 use Rattle.pg_best.specs.Labels.{weight_from, from_source}
 use Rattle.pg_best.specs.Parts.{IsVertex, IsAt, LocalArc, Include, whole_arc, local_arc, IsDivided}
-use Rattle.pg_best.specs.LocalRelax.{IsItemAt, IsOffered, IsMarked, LocalRelax}
+use Rattle.pg_best.specs.LocalRelax.{IsAddressed, IsItemAt, IsOffered, IsMarked, LocalRelax}
 use Rattle.pg_best.specs.Relaxation.{IsRun, HasEnded, IsArc}
 use Rattle.pg_best.specs.Example.{arc, local, part_of, second, offer, busy, empty, there, back, sent_of, handled_of, cell_of, example}
 
@@ -77,6 +77,11 @@ first_belongs arcs = record { from = 1; walk = []; joins = refl; started = refl;
 second_belongs : (arcs : List Arc) → Contains arcs arc → Belongs (weight_from 1) arcs 2 second
 second_belongs arcs among = record { from = 1; walk = arc ∷ []; joins = (among, refl, refl); started = refl; amount = refl; hops = refl }
 
+addressed_0 : (to : ℕ) → IsOther 0 2 to → IsAddressed (part_of 0) to offer
+addressed_0 zero other = absurd (other.1 refl)
+addressed_0 (suc zero) other = record { arc = local; among = contains_first local []; home = refl; vertex = refl; place = refl }
+addressed_0 (suc (suc r)) other = absurd (omega arith)
+
 local_0 : LocalRelax (weight_from 1) (part_of 0) (handled_of 0) (sent_of 0) (cell_of 0) (λ a. false)
 local_0 = record {
   bounded = record {
@@ -99,6 +104,7 @@ local_0 = record {
         subst (λ (p : Offer). Belongs (weight_from 1) arcs p.to.0 p.value) (sent_by_0 to o other among) (second_belongs arcs (incl 0 local (omega arith)));
     within = λ to o other among. subst (λ (p : Offer). IsWithin p.value) (sent_by_0 to o other among) (omega arith);
   };
+  addressed = λ to o other among. subst (IsAddressed (part_of 0) to) (sent_by_0 to o other among) (addressed_0 to other);
 }
 
 local_1 : LocalRelax (weight_from 1) (part_of 1) (handled_of 1) (sent_of 1) (cell_of 1) (λ a. false)
@@ -121,6 +127,7 @@ local_1 = record {
     offers = λ arcs b incl below to o other among l. absurd (sent_by_1 to o other among);
     within = λ to o other among. absurd (sent_by_1 to o other among);
   };
+  addressed = λ to o other among. absurd (sent_by_1 to o other among);
 }
 
 even_0 : (to k : ℕ) (vote : Vote) → IsOther 0 2 to → slice_get (votes_of (list_at (sent_of 0) to)) k ≡ Some vote

@@ -1,4 +1,4 @@
--- What each call of a running program has to show for the marks that it keeps, and that at its end they give part 4 of the law.
+-- What each call of a running program has to show for the marks that it keeps, and that at its end they give what the law says of an end.
 use Rattle.std.proofs.Common.{◌≡◌, ◌≢◌, ◌⊎◌, ◌↔◌, ℕ, zero, suc, ◌+◌, ◌<◌, ◌≤◌, ◌%◌, Bool, true, false, List, [], ◌∷◌, ◌++◌, length, refl, sym, ap, ◌∙◌, subst, inl, inr, arith, Option, Some, None, Contains}
 use Rattle.std.specs.Prelude.{slice_get}
 use Rattle.std.proofs.lemmas.Bool.{cases_eq}
@@ -131,6 +131,7 @@ module _ (part : Part) (handled sent : List (List (Body Offer))) (due : LocalArc
         closed = λ e f away. counted_at handled from f o within ∙ m.closed e f away;
         given = m.given;
         even = m.even;
+        cast_even = m.cast_even;
         present = m.present;
         after = m.after;
         quiet = λ vote c q a busy. record {
@@ -168,6 +169,7 @@ module _ (part : Part) (handled sent : List (List (Body Offer))) (due : LocalArc
             let low : k < round = omega (arith, vote_below (list_at sent t) k vote before, m.given t away, ap (voted round) uncast) in
             let old = m.even t k vote away before in
             (λ b r h. kept k low r ∙ old.0 b r h, λ none. old.1 (λ r h. sym (kept k low r) ∙ none r h));
+        cast_even = λ vote e. cc;
         present = (
           λ e. cc,
           λ none.
@@ -209,6 +211,10 @@ module _ (part : Part) (handled sent : List (List (Body Offer))) (due : LocalArc
                   subst (λ (b : ℕ). (b % 2 ≡ 0) ↔ NoItems part now k) b_is (subst (λ (n : ℕ). (vote.b % 2 ≡ 0) ↔ NoItems part now n) k_is
                   (λ b r o. same round r o ∙ m.present.0 (says.0 b) r o, λ none. says.1 (m.present.1 (λ r o. sym (same round r o) ∙ none r o))))
             ];
+        cast_even = λ w e.
+            let b_is : vote.b ≡ w.b = ap (λ (v : Vote). v.b) (some_same vote w e) in
+            subst (λ (b : ℕ). (b % 2 ≡ 0) ↔ NoItems part now round) b_is
+            (λ b r o. same round r o ∙ m.present.0 (says.0 b) r o, λ none. says.1 (m.present.1 (λ r o. sym (same round r o) ∙ none r o)));
         present = (λ e r o. same round r o ∙ m.present.0 e r o, λ none. m.present.1 (λ r o. sym (same round r o) ∙ none r o));
         after = λ w e r o. same (suc round) r o ∙ round-to_come (suc round) (list_at sent r) (omega (arith, count r o));
         quiet = λ w e q a busy.
@@ -270,6 +276,7 @@ module _ (part : Part) (handled sent : List (List (Body Offer))) (due : LocalArc
     closed = λ e. cc;
     given = λ r h. m.given r h ∙ ap (voted round) was;
     even = m.even;
+    cast_even = λ w e. cc;
     present = (λ e. let next : suc round ≡ round + 1 = omega arith in subst (NoItems part sent) next (m.after vote was), λ none. refl);
     after = λ w e. cc;
     quiet = λ w e q a busy. cc;
@@ -292,6 +299,7 @@ module _ (part : Part) (handled sent : List (List (Body Offer))) (due : LocalArc
         closed = λ e r h. let a = at r h in ap marks a.2 ∙ (marks-mark (list_at handled r) a.0 ∙ ap suc (m.running runs r h));
         given = m.given;
         even = m.even;
+        cast_even = m.cast_even;
         present = m.present;
         after = m.after;
         quiet = λ w e q a busy. left a busy;
@@ -320,7 +328,7 @@ module _ (part : Part) (handled sent : List (List (Body Offer))) (due : LocalArc
         among = subst (λ (l : List Offer). Contains l h.item) (sym (ap (items_of_round h.later) at.2 ∙ round-mark h.later (list_at handled h.rank) at.0)) h.among;
       }
 
-  -- At the end this is part 4 of the law.
+  -- At the end this is what the law says of an end.
   pub marks_at_end : over ≡ true → IsMarked part handled sent due round
   marks_at_end e =
       let mine = m.own e in

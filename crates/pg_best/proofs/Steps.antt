@@ -1,4 +1,4 @@
--- What a step of one rank has to show so that parts 1 to 3 are kept.
+-- What a step of one rank has to show so that the law is kept over its lists.
 use Rattle.std.proofs.Common.{◌≡◌, ◌≢◌, ◌⊎◌, ℕ, zero, suc, ◌<◌, ◌≤◌, Bool, false, List, [], ◌∷◌, refl, sym, ap, ◌∙◌, subst, inl, inr, ⊎_elim, arith, Option, Some, Contains}
 use Rattle.std.proofs.lemmas.List.Elements.{All-contains, Contains-push_cases, Contains-append_left}
 use Rattle.pg_base.specs.Graph.{Arc}
@@ -9,7 +9,7 @@ use Rattle.pg_best.specs.declared.offers.Offer.{Offer}
 use Rattle.pg_label.specs.Values.{HasAtMost, IsWithin, measure, start_value, extended}
 use Rattle.pg_best.specs.Best.{Label, Belongs}
 use Rattle.pg_best.specs.Parts.{Part, LocalArc, IsAt, Include, whole_arc}
-use Rattle.pg_best.specs.LocalRelax.{IsItemAt, Fits, IsOffered, LocalRelax}
+use Rattle.pg_best.specs.LocalRelax.{IsAddressed, IsItemAt, Fits, IsOffered, LocalRelax}
 use Rattle.pg_best.proofs.Complete.{extended_belongs}
 
 -- The value is that of a cell, extended by an arc of its place that leads to v.
@@ -46,12 +46,12 @@ pub record Steps (label : Label) (part : Part) (handled sent : List (List (Body 
   pub lowered : (from : ℕ) (o : Offer) → IsItemAt handled' from o → Fits part o → IsItemAt handled from o ⊎ HasAtMost (cell' o.place) o.value
   pub relaxed : (a : LocalArc) → Contains part.arcs a → due' a ≡ false → ((due a ≡ false) × (cell' a.at ≡ cell a.at)) ⊎ IsRelaxed label part sent' cell' a
   pub cells : (i v : ℕ) (x : Value) → IsAt part i v → cell' i ≡ Some x → (cell i ≡ Some x) ⊎ (IsHandled part handled' v x ⊎ IsExtension label part cell v x)
-  pub offers : (to : ℕ) (o : Offer) → IsItemAt sent' to o → IsItemAt sent to o ⊎ (IsWithin o.value × IsExtension label part cell o.to.0 o.value)
+  pub offers : (to : ℕ) (o : Offer) → IsItemAt sent' to o → IsItemAt sent to o ⊎ (IsWithin o.value × IsAddressed part to o × IsExtension label part cell o.to.0 o.value)
 
 module _ (label : Label) (part : Part) (handled sent : List (List (Body Offer))) (cell : ℕ → Option Value) (due : LocalArc → Bool)
     (handled' sent' : List (List (Body Offer))) (cell' : ℕ → Option Value) (due' : LocalArc → Bool)
     (kept : LocalRelax label part handled sent cell due) (step : Steps label part handled sent cell due handled' sent' cell' due') where
-  -- what the premise of part 3 says of offers handled by now
+  -- what the premise of support says of offers handled by now
   abbrev Below : List Arc → ℕ → Type 0
   Below arcs b = (from : ℕ) (o : Offer) → IsOther part.rank part.ranks from → IsItemAt handled' from o → Fits part o → measure o.value < b → Belongs label arcs o.to.0 o.value
 
@@ -101,13 +101,17 @@ module _ (label : Label) (part : Part) (handled sent : List (List (Body Offer)))
       ];
       offers = λ arcs b all below to o other among l. elim (step.offers to o among) [
         | inl before ↦ kept.supported.offers arcs b all (λ from p away h fits m. below from p away (step.more_handled from p h) fits m) to o other before l
-        | inr now ↦ extension_belongs arcs b all below o.to.0 o.value now.1 l
+        | inr now ↦ extension_belongs arcs b all below o.to.0 o.value now.2 l
       ];
       within = λ to o other among. elim (step.offers to o among) [
         | inl before ↦ kept.supported.within to o other before
         | inr now ↦ now.0
       ];
     };
+    addressed = λ to o other among. elim (step.offers to o among) [
+      | inl before ↦ kept.addressed to o other before
+      | inr now ↦ now.1
+    ];
   }
 
 -- what stands on the lists by rank after x joined one of them

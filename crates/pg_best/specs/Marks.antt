@@ -24,9 +24,10 @@ pub record AreAllQuiet (part : Part) (handled sent : List (List (Body Offer))) (
   pub others : (from : ℕ) (vote : Vote) → IsOther part.rank part.ranks from → slice_get (votes_of (list_at handled from)) k ≡ Some vote → IsQuiet vote
   pub mine : (to : ℕ) (vote : Vote) → IsOther part.rank part.ranks to → slice_get (votes_of (list_at sent to)) k ≡ Some vote → IsQuiet vote
 
--- As many lists as ranks; as many marks handled as rounds have ended, and as many sent as votes were cast; each mark's `b` is even
--- exactly where its round has no item. Once a quiet vote is cast, an arc is due only where an item was handled in that round or
--- later; and a program ends with the first round all of whose votes are quiet. (On one rank nobody is told the own vote.)
+-- As many lists as ranks; as many marks handled as rounds have ended, and as many sent as votes were cast. Each mark's `b` is even
+-- exactly where its round has no item, and so is that of the vote that is cast, also on one rank, where no list carries it. Once a
+-- quiet vote is cast, an arc is due only where an item was handled in that round or later; and a program ends with the first round
+-- all of whose votes are quiet. (On one rank nobody is told the own vote.)
 pub record Marks (part : Part) (handled sent : List (List (Body Offer))) (due : LocalArc → Bool) (round : ℕ) (cast : Option Vote) (over sends : Bool) : Type 0 where
   pub from_each : length handled ≡ part.ranks
   pub to_each : length sent ≡ part.ranks
@@ -35,6 +36,7 @@ pub record Marks (part : Part) (handled sent : List (List (Body Offer))) (due : 
   pub given : (to : ℕ) → IsOther part.rank part.ranks to → marks (list_at sent to) ≡ voted round cast
   pub told : (vote : Vote) → cast ≡ Some vote → (to : ℕ) → IsOther part.rank part.ranks to → slice_get (votes_of (list_at sent to)) round ≡ Some vote
   pub even : (to k : ℕ) (vote : Vote) → IsOther part.rank part.ranks to → slice_get (votes_of (list_at sent to)) k ≡ Some vote → (vote.b % 2 ≡ 0) ↔ NoItems part sent k
+  pub cast_even : (vote : Vote) → cast ≡ Some vote → (vote.b % 2 ≡ 0) ↔ NoItems part sent round
   pub present : (sends ≡ false) ↔ NoItems part sent round
   pub after : (vote : Vote) → cast ≡ Some vote → NoItems part sent (suc round)
   pub quiet : (vote : Vote) → cast ≡ Some vote → IsQuiet vote → (a : LocalArc) → due a ≡ true → HasItemFrom part handled round

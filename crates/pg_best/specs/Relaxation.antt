@@ -31,7 +31,7 @@ pub record Run : Type 0 where
   pub due : ℕ → LocalArc → Bool
   pub last : ℕ → ℕ
 
--- All that was sent was handled, and each rank keeps parts 1 to 3.
+-- All that was sent was handled, and each rank keeps its bounds, relaxed arcs and support.
 pub record IsRun (run : Run) : Type 0 where
   pub size : run.n ≤ MAX_VERTICES
   pub arcs : All (IsArc run.n) run.arcs
@@ -40,7 +40,7 @@ pub record IsRun (run : Run) : Type 0 where
   pub taken : (r s : ℕ) → r < run.ranks → IsOther r run.ranks s → list_at (run.handled s) r ≡ list_at (run.sent r) s
   pub kept : (r : ℕ) → r < run.ranks → LocalRelax run.label (run.parts r) (run.handled r) (run.sent r) (run.cell r) (run.due r)
 
--- A mark ends each of as many rounds of each list, and each rank keeps part 4.
+-- A mark ends each of as many rounds of each list, and each rank keeps what it says of its end.
 pub record HasEnded (run : Run) : Type 0 where
   pub rounds : ℕ
   pub marked : (r s : ℕ) → r < run.ranks → IsOther r run.ranks s → marks (list_at (run.sent r) s) ≡ rounds

@@ -34,6 +34,7 @@ due_marks part handled sent due due' round over sends m = record {
   closed = m.closed;
   given = m.given;
   even = m.even;
+  cast_even = λ vote e. cc;
   present = m.present;
   after = m.after;
   quiet = λ vote e q a busy. cc;
@@ -58,6 +59,7 @@ less_marks part handled sent due due' round cast over sends less m = record {
   closed = m.closed;
   given = m.given;
   even = m.even;
+  cast_even = m.cast_even;
   present = m.present;
   after = m.after;
   quiet = λ vote e q a busy. m.quiet vote e q a (less a busy);
@@ -88,6 +90,7 @@ pub handle_kept : (label : Label) (p : Portion) (takes takes' : Places) (handled
 handle_kept label p takes takes' handled sent values values' pending pending' ahead round cast ended sends from o each same fits other low kept = record {
   relaxes = handled_keeps label p takes takes' handled sent values values' pending pending' ahead from o each same
       (record { at = record { within = fits.below; vertex = fits.holds }; within = fits.within }) other (omega (arith, other.0, kept.marked.from_each)) low kept.relaxes;
+  resting = kept.resting;
   marked = handle_marks (part_of p) handled sent (due p pending takes ahead) round cast ended sends kept.marked from o (due p pending' takes' ahead) other;
 }
 
@@ -97,6 +100,7 @@ pub ignore_kept : (label : Label) (p : Portion) (takes : Places) (handled sent :
     → HasRelaxed label p takes (append_at handled from (Item o)) sent values pending ahead round cast ended sends
 ignore_kept label p takes handled sent values pending ahead round cast ended sends from o unfit other kept = record {
   relaxes = ignored_keeps label p takes handled sent values pending ahead from o (λ f. unfit (record { below = f.at.within; holds = f.at.vertex; within = f.within })) kept.relaxes;
+  resting = kept.resting;
   marked = handle_marks (part_of p) handled sent (due p pending takes ahead) round cast ended sends kept.marked from o (due p pending takes ahead) other;
 }
 
@@ -108,6 +112,7 @@ pub quiet_kept : (label : Label) (p : Portion) (takes takes' : Places) (handled 
     → HasRelaxed label p takes' handled sent values' pending' ahead' round None ended sends
 quiet_kept label p takes takes' handled sent values values' pending pending' ahead ahead' round ended sends step kept = record {
   relaxes = step kept.relaxes;
+  resting = λ vote e. cc;
   marked = due_marks (part_of p) handled sent (due p pending takes ahead) (due p pending' takes' ahead') round ended sends kept.marked;
 }
 
@@ -121,6 +126,7 @@ sent_kept label p takes takes' handled sent sent' values values' pending pending
     let part : Part = part_of p in
     let is : ended ≡ false = runs part handled sent (due p pending takes ahead) round ended sends kept.marked in
     record {
+      resting = λ vote e. cc;
       relaxes = step kept.marked.to_each kept.relaxes;
       marked = subst (λ lists. Marks part handled lists (due p pending' takes' ahead') round None ended true) (sym grew)
           (send_marks part handled sent (due p pending takes ahead) round None ended sends kept.marked to o (due p pending' takes' ahead') other refl is);
@@ -136,6 +142,7 @@ vote_kept label p takes takes' handled sent values pending pending' round ended 
     let part : Part = part_of p in
     let is : ended ≡ false = runs part handled sent (due p pending takes None) round ended sends kept.marked in
     record {
+      resting = λ w e. refl;
       relaxes = lists_keep label p takes takes' handled sent handled (append_others p.rank (Mark vote) sent) values pending pending' None
           (same_items handled) (voted_items p.rank vote sent) st sp kept.relaxes;
       marked = vote_marks part handled sent (due p pending' takes' None) round None ended sends
@@ -158,6 +165,7 @@ again_kept label p takes takes' handled sent values pending pending' ahead round
     let part : Part = part_of p in
     let own = vote_at votes p.rank (omega (arith, each, within)) in
     record {
+      resting = λ w e. cc;
       relaxes = lists_keep label p takes takes' handled sent (append_marks p.rank votes handled) sent values pending pending' ahead
           (ended_items p.rank votes handled) (same_items sent) st sp kept.relaxes;
       marked = again_marks part handled sent (due p pending takes ahead) round cast false sends kept.marked votes own.0 (due p pending' takes' ahead) refl each (sym mine ∙ own.1) mine left;
@@ -175,6 +183,7 @@ stop_kept label p takes handled sent values pending ahead round cast sends votes
     let was : cast ≡ Some own.0 = sym mine ∙ own.1 in
     let still : IsQuiet own.0 = quiet p.rank own.0 own.1 in
     record {
+      resting = kept.resting;
       relaxes = lists_keep label p takes takes handled sent (append_marks p.rank votes handled) sent values pending pending ahead
           (ended_items p.rank votes handled) (same_items sent) (λ s i. refl) (λ s i. refl) kept.relaxes;
       marked = stop_marks part handled sent now round cast false sends kept.marked votes own.0 refl each was still quiet

@@ -10,3 +10,4 @@ pub mod OpeningLemmas
 pub mod WholeLemmas
 pub mod DivisionLemmas
 pub mod EndingLemmas
+pub mod SlotLemmas

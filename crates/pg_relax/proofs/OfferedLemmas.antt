@@ -34,9 +34,9 @@ offered_along p sent offered home o a are k to home_is place =
     let was = are k.slot k.is_slot.ghost found.0 k.is_slot.stands found.1 in
     record {
       offer = was.offer;
-      among = subst (λ r. IsItemAt sent r was.offer) (k.is_slot.home_is ∙ home_is) was.among;
-      to = was.to ∙ (k.is_slot.vertex ∙ to);
-      place = was.place ∙ (k.is_slot.place ∙ place);
+      among = subst (λ r. IsItemAt sent r was.offer) (k.is_slot.goes.home_is ∙ home_is) was.among;
+      to = was.to ∙ (k.is_slot.goes.vertex ∙ to);
+      place = was.place ∙ (k.is_slot.goes.place ∙ place);
       most = most_trans was.offer.value found.0 o.value was.most found.2;
     }
 
@@ -52,7 +52,7 @@ same_ghost ghosts slot g h a b = cc
 -- and noted
 pub offered_noted : (p : Portion) (sent : List (List (Body Offer))) (offered offered' : List Value) (home : ℕ) (o : Offer) → home < length sent → length offered ≡ length p.ghosts → IsWithin o.value
     → IsNoted p home o offered offered' → AreOffered p sent offered → AreOffered p (append_at sent home (Item o)) offered'
-offered_noted p sent offered offered' home o listed each near (inl same) are = subst (AreOffered p (append_at sent home (Item o))) (sym same) (offered_more p sent offered home o are)
+offered_noted p sent offered offered' home o listed each near (inl was) are = subst (AreOffered p (append_at sent home (Item o))) (sym was.same) (offered_more p sent offered home o are)
 offered_noted p sent offered offered' home o listed each near (inr set) are = λ slot g y stands has. elim (cases_eq slot set.slot) [
   | inl same ↦
       let stands_here : slice_get p.ghosts set.slot ≡ Some g = ap (slice_get p.ghosts) (sym same) ∙ stands in
@@ -62,10 +62,10 @@ offered_noted p sent offered offered' home o listed each near (inr set) are = λ
       let y_same : o.value ≡ y = cc in
       subst (λ (h : Ghost). IsOffered (append_at sent home (Item o)) (toward h) y) g_is (record {
         offer = o;
-        among = subst (λ r. IsItemAt (append_at sent home (Item o)) r o) (sym set.is_slot.home_is)
+        among = subst (λ r. IsItemAt (append_at sent home (Item o)) r o) (sym set.is_slot.goes.home_is)
             (subst (λ l. Contains l (Item o)) (sym (list_at-append_same sent home (Item o) listed)) (Contains-push (list_at sent home) (Item o)));
-        to = sym set.is_slot.vertex;
-        place = sym set.is_slot.place;
+        to = sym set.is_slot.goes.vertex;
+        place = sym set.is_slot.goes.place;
         most = subst (AtMost o.value) y_same (most_refl o.value);
       })
   | inr apart ↦ offered_more p sent offered home o are slot g y stands (sym (set_else offered set.slot slot o.value apart) ∙ (ap (λ vs. value_at vs slot) (sym set.set) ∙ has))

@@ -11,7 +11,7 @@ use Rattle.pg_group.specs.Supersteps.{nothing}
 use Rattle.pg_label.specs.declared.values.Value.{Value}
 use Rattle.pg_label.specs.Values.{HasAtMost, IsWithin, start_value}
 use Rattle.pg_agenda.specs.declared.shares.Share.TheVariants as share
-use Rattle.pg_agenda.specs.Shares.{Places}
+use Rattle.pg_agenda.specs.Shares.{Places, AreSame}
 use Rattle.pg_adj.specs.Portions.{Portion}
 use Rattle.pg_best.specs.declared.offers.Offer.{Offer}
 use Rattle.pg_best.specs.Best.{Label, Belongs}
@@ -82,11 +82,13 @@ module _ (label : Label) (p : Portion) (takes pending : Places) (values : List V
       offers = λ arcs b all below to o other among l. absurd (no_item p.ranks to o among);
       within = λ to o other among. absurd (no_item p.ranks to o among);
     };
+    addressed = λ to o other among. absurd (no_item p.ranks to o among);
   }
 
   pub opening_kept : HasRelaxed label p takes (nothing p.ranks) (nothing p.ranks) values pending None 0 None false false
   opening_kept = record {
     relaxes = opening_relaxes;
+    resting = λ vote e. refl;
     marked = record {
       from_each = length-replicate p.ranks [];
       to_each = length-replicate p.ranks [];
@@ -94,6 +96,7 @@ module _ (label : Label) (p : Portion) (takes pending : Places) (values : List V
       closed = λ e. cc;
       given = λ to other. ap marks (none_at p.ranks to);
       even = λ to k vote other is. absurd (no_vote k vote (subst (λ l. slice_get (votes_of l) k ≡ Some vote) (none_at p.ranks to) is));
+      cast_even = λ vote e. cc;
       present = (λ e r h. ap (items_of_round 0) (none_at p.ranks r), λ none. refl);
       after = λ vote e. cc;
       quiet = λ vote e. cc;
@@ -144,7 +147,12 @@ not_started label p n values pending none o = record {
     | inl before ↦ o.none i before s
     | inr now ↦ o.later i (omega arith)
   ];
+  rests = λ i k h s. elim (below_next i n h) [
+    | inl before ↦ o.rests i k before s
+    | inr now ↦ o.past i k (omega arith)
+  ];
   later = λ i h. o.later i (omega arith);
+  past = λ i k h. o.past i k (omega arith);
 }
 
 -- a place whose vertex starts is lowered
@@ -175,13 +183,18 @@ next_started label p n class values values' pending pending' some within low o =
           | inl same ↦ absurd (some_none class (sym some ∙ (ap (λ j. label.start (slice_index p.vertices j)) (sym same) ∙ s)))
           | inr apart ↦ else i apart ∙ o.none i (omega arith) s
         ];
+        rests = λ i k h s. elim (cases_eq i n) [
+          | inl same ↦ absurd (some_none class (sym some ∙ (ap (λ j. label.start (slice_index p.vertices j)) (sym same) ∙ s)))
+          | inr apart ↦ fell.others k i apart ∙ o.rests i k (omega arith) s
+        ];
         later = λ i h. else i (λ e. absurd (omega arith)) ∙ o.later i (omega arith);
+        past = λ i k h. fell.others k i (λ e. absurd (omega arith)) ∙ o.past i k (omega arith);
       }
 ]
 
 -- all places are opened
 pub all_opened : (label : Label) (p : Portion) (values : List Value) (pending : Places) → IsOpenBelow (length p.vertices) label p values pending → IsOpening label p values pending
-all_opened label p values pending o = record { value = o.value; marked = o.marked; none = o.none }
+all_opened label p values pending o = record { value = o.value; marked = o.marked; none = o.none; rests = o.rests; past = o.past }
 
 -- one place more is opened
 pub opened_next : (label : Label) (p : Portion) (n : ℕ) (values values' : List Value) (pending pending' : Places) → n < length values
@@ -192,3 +205,16 @@ opened_next label p n values values' pending pending' within started stays o = g
   go : (s : Option ℕ) → label.start (slice_index p.vertices n) ≡ s → IsOpenBelow (n + 1) label p values' pending'
   go None e = not_started label p n values' pending' e (stays e o)
   go (Some class) e = next_started label p n class values values' pending pending' e within (started class e) o
+
+-- the same places are pending
+pub opening_same : (label : Label) (p : Portion) (values : List Value) (pending pending' : Places) → AreSame pending pending' → IsOpening label p values pending → IsOpening label p values pending'
+opening_same label p values pending pending' same o = record {
+  value = o.value;
+  marked = λ i class h s. elim (o.marked i class h s) [
+    | inl whole ↦ inl (same share.All i ∙ whole)
+    | inr light ↦ inr (same share.Light i ∙ light)
+  ];
+  none = o.none;
+  rests = λ i k h s. same k i ∙ o.rests i k h s;
+  past = λ i k h. same k i ∙ o.past i k h;
+}

@@ -1,4 +1,4 @@
--- Passing an arc keeps the law's parts 1 to 3.
+-- Passing an arc keeps the law of relaxation.
 use Rattle.std.proofs.Common.{◌≡◌, ◌≢◌, ◌⊎◌, ℕ, ◌<◌, ◌≤◌, ◌+◌, ◌&&◌, true, false, List, length, refl, sym, ap, ◌∙◌, subst, inl, inr, arith, Some, None, Contains}
 use Rattle.std.specs.Prelude.{slice_index, slice_index_or}
 use Rattle.std.proofs.lemmas.Bool.{cases_eq}
@@ -18,7 +18,7 @@ use Rattle.pg_adj.specs.Portions.{Portion, IsOwnArc}
 use Rattle.pg_best.specs.declared.offers.Offer.{Offer}
 use Rattle.pg_best.specs.Best.{Label}
 use Rattle.pg_best.specs.Parts.{LocalArc, IsAt}
-use Rattle.pg_best.specs.LocalRelax.{IsOffered}
+use Rattle.pg_best.specs.LocalRelax.{IsAddressed, IsOffered}
 use Rattle.pg_best.proofs.Steps.{IsExtension, IsRelaxed, step_keeps, joined_cases, joined_before}
 use Rattle.pg_best.proofs.ValueLemmas.{most_refl}
 use Rattle.pg_relax.specs.declared.ahead.Ahead.{Ahead}
@@ -207,6 +207,8 @@ module _ (label : Label) (p : Portion) (takes : Places) (handled sent : List (Li
   pub send_keeps : (o : Offer) → IsOfferOf label.add p.rank h.place values b o → b.home.0 < length sent
       → Relaxes label p takes handled (append_at sent b.home.0 (Item o)) values pending (Some (after h))
   send_keeps o is within =
+      let addressed : IsAddressed (part_of p) b.home.0 o =
+      record { arc = here; among = stands; home = refl; vertex = sym (ap (λ (v : Vertex). v.0) is.to); place = sym is.place } in
       let sent' : List (List (Body Offer)) = append_at sent b.home.0 (Item o) in
       step_keeps label (part_of p) handled sent (value_at values) (due p pending takes (Some h)) handled sent' (value_at values) (due p pending takes (Some (after h))) kept (record {
         falls = λ i y m. m;
@@ -234,8 +236,8 @@ module _ (label : Label) (p : Portion) (takes : Places) (handled sent : List (Li
           | inl before ↦ inl before
           | inr now ↦
               let same : o ≡ m = item_same o m now.0 in
-              inr (subst (λ n. IsWithin n.value × IsExtension label (part_of p) (value_at values) n.to.0 n.value) same
-              (is.extends.within, extension o.value is.extends o.to.0 (sym (ap (λ (v : Vertex). v.0) is.to))))
+              inr (subst (λ n. IsWithin n.value × IsAddressed (part_of p) to n × IsExtension label (part_of p) (value_at values) n.to.0 n.value) same
+              (is.extends.within, subst (λ r. IsAddressed (part_of p) r o) (sym now.1) addressed, extension o.value is.extends o.to.0 (sym (ap (λ (v : Vertex). v.0) is.to))))
         ];
       })
 

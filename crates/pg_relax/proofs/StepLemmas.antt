@@ -1,4 +1,4 @@
--- The other steps of a rank that keep the law's parts 1 to 3: an offer is handled, a place is taken up, marks are appended.
+-- The other steps of a rank that keep the law of relaxation: an offer is handled, a place is taken up, marks are appended.
 use Rattle.std.proofs.Common.{◌≡◌, ◌≢◌, ◌⊎◌, ℕ, ◌<◌, ◌≤◌, ◌+◌, ◌&&◌, Bool, true, false, List, length, refl, sym, ap, ◌∙◌, subst, inl, inr, arith, Option, Some, None, Contains}
 use Rattle.std.specs.Prelude.{slice_index}
 use Rattle.std.proofs.lemmas.Bool.{cases_eq}

@@ -11,13 +11,21 @@ use Rattle.pg_best.specs.Parts.{LocalArc}
 use Rattle.pg_best.specs.LocalRelax.{IsOffered}
 use Rattle.pg_relax.specs.Tables.{value_at}
 
--- The offer goes to this rank's vertex, which is the ghost in this slot.
-pub record IsSlot (p : Portion) (slot home : ℕ) (offer : Offer) : Type 0 where
-  pub ghost : Ghost
-  pub stands : slice_get p.ghosts slot ≡ Some ghost
+-- Each ghost's slot stands at its vertex.
+abbrev pub FindsGhosts : List Ghost → List ℕ → Type 0
+FindsGhosts ghosts slots = (slot : ℕ) (g : Ghost) → slice_get ghosts slot ≡ Some g → slice_get slots g.vertex.0 ≡ Some slot
+
+-- The offer goes to this ghost: to its vertex, at its place of its home.
+pub record IsGhostOf (home : ℕ) (offer : Offer) (ghost : Ghost) : Type 0 where
   pub vertex : ghost.vertex.0 ≡ offer.to.0
   pub home_is : ghost.home.0 ≡ home
   pub place : ghost.place ≡ offer.place
+
+-- The offer goes to the ghost in this slot.
+pub record IsSlot (p : Portion) (slot home : ℕ) (offer : Offer) : Type 0 where
+  pub ghost : Ghost
+  pub stands : slice_get p.ghosts slot ≡ Some ghost
+  pub goes : IsGhostOf home offer ghost
 
 -- What stands for the offer's vertex is at most the offer's value.
 pub record IsKnown (p : Portion) (offered : List Value) (home : ℕ) (offer : Offer) : Type 0 where
@@ -31,9 +39,14 @@ pub record IsSet (p : Portion) (home : ℕ) (offer : Offer) (offered offered' : 
   pub is_slot : IsSlot p slot home offer
   pub set : offered' ≡ slice_set offered slot offer.value
 
--- Nothing changed, or the offer's value stands for its vertex.
+-- Nothing changed, and what stands for the offer's vertex, where that is a ghost, is at most the offer's value.
+pub record WasNoted (p : Portion) (home : ℕ) (offer : Offer) (offered offered' : List Value) : Type 0 where
+  pub same : offered' ≡ offered
+  pub most : (slot : ℕ) → IsSlot p slot home offer → HasAtMost (value_at offered slot) offer.value
+
+-- The offer's value stands for its vertex, or one as low did before.
 abbrev pub IsNoted : Portion → ℕ → Offer → List Value → List Value → Type 0
-IsNoted p home offer offered offered' = (offered' ≡ offered) ⊎ IsSet p home offer offered offered'
+IsNoted p home offer offered offered' = WasNoted p home offer offered offered' ⊎ IsSet p home offer offered offered'
 
 -- An arc to the ghost.
 abbrev pub toward : Ghost → LocalArc

@@ -66,7 +66,7 @@ pub record IsOfferOf (cost : ℕ → ℕ) (rank at : ℕ) (values : List Value) 
   pub place : offer.place ≡ arc.place
   pub extends : Extends cost values at arc.w offer.value
 
--- What a rank kept, it keeps on: parts 1 to 3 of the law, over the same lists.
+-- What a rank kept of the law of relaxation, it keeps on, over the same lists.
 abbrev pub KeepsOn : Label → Portion → Places → List Value → Places → Option Ahead → Places → List Value → Places → Option Ahead → Type 0
 KeepsOn label p takes values pending ahead takes' values' pending' ahead' =
     (handled sent : List (List (Body Offer))) → Relaxes label p takes handled sent values pending ahead → Relaxes label p takes' handled sent values' pending' ahead'

@@ -3,6 +3,7 @@ use Rattle.std.specs.Prelude.{◌≡◌, ℕ, false, None, List}
 use Rattle.pg_group.specs.declared.messages.Body.{Body}
 use Rattle.pg_label.specs.declared.labels.Label.{Ghosts as LabelGhosts}
 use Rattle.pg_agenda.specs.declared.agendas.Agenda.{Ghosts as AgendaGhosts}
+use Rattle.pg_agenda.specs.Shares.{AreSame}
 use Rattle.pg_adj.specs.Portions.{Portion}
 use Rattle.pg_best.specs.declared.offers.Offer.{Offer}
 use Rattle.pg_relax.specs.declared.relaxing.Relax.{Relax}
@@ -21,6 +22,10 @@ module _ {L A : Type 0} {l : LabelGhosts L} {a : AgendaGhosts A} where
   -- its label
   abbrev pub label_in : Relax L A l a → L
   label_in r = r.label
+
+  -- its agenda
+  abbrev pub agenda_in : Relax L A l a → A
+  agenda_in r = r.frontier.agenda
 
   abbrev pub state_of : Relax L A l a → State
   state_of r = record {
@@ -46,11 +51,12 @@ module _ {L A : Type 0} {l : LabelGhosts L} {a : AgendaGhosts A} where
     pub sends : r.sends ≡ false
     pub unoffered : (slot : ℕ) → value_at r.offered.table.values.items slot ≡ None
 
-  -- The part and the label stay, the four parts of the law of relaxation hold over what was handled and sent, and what stands
-  -- for a ghost was offered to it.
+  -- The part, the label and the arcs that each share takes stay, the law of relaxation holds over what was handled and sent, and
+  -- what stands for a ghost was offered to it.
   pub record KeepsRelaxed (start : Relax L A l a) (handled sent : List (List (Body Offer))) (r : Relax L A l a) : Type 0 where
     pub part : r.part ≡ start.part
     pub label : r.label ≡ start.label
+    pub takes : AreSame (a.takes start.frontier.agenda) (a.takes r.frontier.agenda)
     pub relaxed : HasRelaxed (label_of (l.start r.label) (l.add r.label)) r.part (a.takes r.frontier.agenda) handled sent r.frontier.table.values.items (a.pending r.frontier.agenda) r.ahead
         (count_of r.rounds) r.cast r.ended r.sends
     pub offered : AreOffered r.part sent r.offered.table.values.items

@@ -52,6 +52,6 @@ abbrev pub due : Portion → Places → Places → Option Ahead → LocalArc →
 due p pending takes ahead a =
     (pending share.Light a.at || pending share.All a.at) || ((pending share.Heavy a.at && takes share.Heavy a.weight) || is_ahead p takes ahead a)
 
--- Parts 1 to 3 of the law, for what a rank shows.
+-- The law of relaxation over these lists, for what a rank shows.
 abbrev pub Relaxes : Label → Portion → Places → List (List (Body Offer)) → List (List (Body Offer)) → List Value → Places → Option Ahead → Type 0
 Relaxes label p takes handled sent values pending ahead = LocalRelax label (part_of p) handled sent (value_at values) (due p pending takes ahead)

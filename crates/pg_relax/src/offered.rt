@@ -1,7 +1,7 @@
 //! What was offered to the vertices of other ranks.
-ghost use Rattle.std.specs.Prelude.{◌≡◌, ◌<◌, true, Some, length, replicate, IfOk, IfSome};
+ghost use Rattle.std.specs.Prelude.{◌≡◌, ◌<◌, ◌≤◌, ◌^◌, ℕ, true, false, All, AllPairs, length, replicate, slice_get, IfNone, IfOk, IfSome};
 ghost use Rattle.pg_label.specs.Values.{IsWithin};
-ghost use Rattle.pg_relax.specs.Offered.{IsKnown, IsNoted, IsSlot};
+ghost use Rattle.pg_relax.specs.Offered.{FindsGhosts, IsGhostOf, IsKnown, IsNoted, IsSlot};
 ghost use Rattle.pg_relax.specs.Tables.{nowhere};
 
 use crate::tables::Table;
@@ -15,45 +15,45 @@ use std::alloc::{AllocError, Global};
 #[derive(Drop)]
 pub(crate) struct Offered {
     // By vertex, in which slot it is a ghost. An entry counts only where the ghost in that slot is the vertex.
-    slots: Vec<u32>,
+    pub(crate) slots: Vec<u32>,
     pub(crate) table: Table,
 }
 
 impl Offered {
     /// Nothing was offered yet.
     pub(crate) fn new(alloc: Global, part: &Part) -> Result<Offered, AllocError>
-        ensures { IfOk result (λ offered. offered.table.values.items ≡ replicate (length part.now.ghosts) nowhere) }
+        ensures nothing { IfOk result (λ offered. offered.table.values.items ≡ replicate (length part.now.ghosts) nowhere) }
+        ensures finds { IfOk result (λ offered. FindsGhosts part.now.ghosts offered.slots.items) }
     {
         let ghosts = part.ghosts();
         Ok(Offered {
-            slots: slots_of(alloc, part.n() as usize, ghosts)?,
+            slots: slots_of(alloc, part.n(), ghosts)?,
             table: Table::new(alloc, ghosts.len())?,
         })
     }
 
     // The slot of the ghost to which the offer goes.
     fn slot(&self, part: &Part, home: RankNo, offer: &Offer) -> Option<u32>
-        ensures { IfSome result (λ slot. IsSlot part.now slot home.0 offer.now) }
+        requires finds { FindsGhosts part.now.ghosts self.now.slots.items }
+        ensures some { IfSome result (λ slot. IsSlot part.now slot home.0 offer.now) }
+        ensures within { IfSome result (λ slot. slot < length part.now.ghosts) }
+        ensures one { IfSome result (λ slot. (other : ℕ) → IsSlot part.now other home.0 offer.now → other ≡ slot) }
+        ensures none { IfNone result ((slot : ℕ) → IsSlot part.now slot home.0 offer.now → ⊥) }
     {
-        let slot = *self.slots.get(offer.to.0 as usize)?;
-        let held = *part.ghosts().get(slot as usize)?;
-        if held.vertex == offer.to && held.home == home && held.place == offer.place {
-            Some(slot)
-        } else {
-            None
-        }
+        let slot = entry(&self.slots, offer.to.0)?;
+        let held = entry(part.ghosts(), slot)?;
+        goes_to(&held, home, offer).then_some(slot)
     }
 
     /// Whether an offer of at most this value went to the same vertex before.
     pub(crate) fn has(&self, part: &Part, home: RankNo, offer: &Offer) -> bool
-        requires { length self.now.table.values.items ≡ length part.now.ghosts }
-        ensures { result ≡ true → IsKnown part.now self.now.table.values.items home.0 offer.now }
+        requires each { length self.now.table.values.items ≡ length part.now.ghosts }
+        requires finds { FindsGhosts part.now.ghosts self.now.slots.items }
+        ensures known { result ≡ true → IsKnown part.now self.now.table.values.items home.0 offer.now }
+        ensures not { result ≡ false → IsKnown part.now self.now.table.values.items home.0 offer.now → ⊥ }
     {
-        let Some(slot) = self.slot(part, home, offer) else {
-            return false;
-        };
-        match self.table.value(slot) {
-            Some(before) => !offer.value.is_below(before),
+        match self.slot(part, home, offer) {
+            Some(slot) => self.table.has_at_most(slot, offer.value),
             None => false,
         }
     }
@@ -61,8 +61,10 @@ impl Offered {
     /// Notes that this offer was sent.
     pub(crate) fn note(&mut self, part: &Part, home: RankNo, offer: &Offer)
         requires each { length self.old.table.values.items ≡ length part.now.ghosts }
+        requires finds { FindsGhosts part.now.ghosts self.old.slots.items }
         requires within { IsWithin offer.now.value }
         ensures noted { IsNoted part.now home.0 offer.now self.old.table.values.items self.new.table.values.items }
+        ensures same_slots { self.new.slots ≡ self.old.slots }
         ensures same_count { length self.new.table.values.items ≡ length self.old.table.values.items }
     {
         if let Some(slot) = self.slot(part, home, offer) {
@@ -71,18 +73,34 @@ impl Offered {
     }
 }
 
+// The entry at an index, if there is one.
+fn entry<T: Copy>(entries: &[T], index: u32) -> Option<T>
+    ensures { result ≡ slice_get entries.now index }
+{
+    entries.get(index as usize).copied()
+}
+
+// Whether the offer goes to this ghost.
+fn goes_to(held: &Ghost, home: RankNo, offer: &Offer) -> bool
+    ensures goes { result ≡ true → IsGhostOf home.0 offer.now held.now }
+    ensures not { result ≡ false → IsGhostOf home.0 offer.now held.now → ⊥ }
+{
+    held.vertex == offer.to && held.home == home && held.place == offer.place
+}
+
 // For each vertex from 0 to n the slot in which it is a ghost. Nothing where there are no ghosts.
-fn slots_of(alloc: Global, n: usize, ghosts: &[Ghost]) -> Result<Vec<u32>, AllocError>
-    requires { n < 4294967296 }
+fn slots_of(alloc: Global, n: u32, ghosts: &[Ghost]) -> Result<Vec<u32>, AllocError>
+    requires few { length ghosts.now < 2 ^ 32 }
+    requires held { All (λ g. g.vertex.0 ≤ n) ghosts.now }
+    requires ascend { AllPairs (λ g h. g.vertex.0 < h.vertex.0) ghosts.now }
+    ensures { IfOk result (λ slots. FindsGhosts ghosts.now slots.items) }
 {
     if ghosts.is_empty() {
         return Ok(Vec::new(alloc));
     }
-    let mut slots = vec![in alloc; u32::MAX; n + 1]?;
-    for (held, slot) in ghosts.iter().zip(0..u32::MAX) {
-        if let Some(entry) = slots.get_mut(held.vertex.0 as usize) {
-            *entry = slot;
-        }
+    let mut slots = vec![in alloc; u32::MAX; n as usize + 1]?;
+    for (slot, held) in ghosts.iter().enumerate() {
+        slots[held.vertex.0 as usize] = slot as u32;
     }
     Ok(slots)
 }

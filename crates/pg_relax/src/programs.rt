@@ -1,6 +1,11 @@
 //! Relaxation as a rank program.
-ghost use Rattle.std.specs.Prelude.{◌≡◌, true, false};
-ghost use Rattle.pg_relax.specs.Kept.{AreQuiet, IsFitting};
+ghost use Rattle.std.specs.Prelude.{◌≡◌, ◌+◌, true, false, None, Some, List, length, slice_get};
+ghost use Rattle.pg_group.specs.declared.messages.Body.{Body};
+ghost use Rattle.pg_group.specs.declared.messages.Body.TheVariants.{Mark};
+ghost use Rattle.pg_group.specs.Supersteps.{append_marks, append_others, is_stop, OnAgain, OnStop};
+ghost use Rattle.pg_best.specs.declared.offers.Offer.{Offer};
+ghost use Rattle.pg_relax.specs.Kept.{AreQuiet, IsFitting, IsNarrow};
+ghost use Rattle.pg_relax.specs.Shown.{KeepsRelaxed, agenda_in, state_of};
 
 use crate::Relax;
 use crate::working::{go_on, take_up};
@@ -35,7 +40,7 @@ impl<L: Label + Send, A: Agenda + Send> Program for Relax<L, A> {
     ghost use Rattle.pg_relax.specs.Rounds.{count_of};
     ghost use Rattle.pg_relax.specs.Kept.{IsNarrow};
     ghost use Rattle.pg_relax.specs.Shown.{IsNewRelax, KeepsRelaxed};
-    ghost use Rattle.pg_relax.specs.Items.{IsHandled, IsItem};
+    ghost use Rattle.pg_relax.specs.Items.{IsHandled, IsItem, SendsOnlyNew};
     ghost use Rattle.pg_agenda.specs.Shares.{AreNone, AreSame};
 
     type Body = Offer;
@@ -56,7 +61,8 @@ impl<L: Label + Send, A: Agenda + Send> Program for Relax<L, A> {
 
     ghost Keeps = { KeepsRelaxed };
 
-    ghost DidItem = { λ old sent new more. IsItem (A.pending old.frontier.agenda) (A.pending new.frontier.agenda) old.ahead new.ahead };
+    ghost DidItem = { λ old sent new more. IsItem old.part (A.ready old.frontier.agenda) (A.pending old.frontier.agenda) (A.pending new.frontier.agenda) old.ahead new.ahead
+        × SendsOnlyNew old.part sent old.offered.table.values.items more new.offered.table.values.items };
 
     ghost DidHandle = { λ old from offer new. IsHandled old.part offer old.frontier.table.values.items (A.pending old.frontier.agenda) new.frontier.table.values.items (A.pending new.frontier.agenda) };
 
@@ -105,13 +111,44 @@ impl<L: Label + Send, A: Agenda + Send> Program for Relax<L, A> {
         went.worked
     }
 
-    fn vote(&mut self) -> Vote {
+    fn vote(&mut self) -> Vote
+        requires idle { ⟦<Relax<L, A> as Program>⟧.idle self.old ≡ true }
+        requires uncast { ⟦<Relax<L, A> as Program>⟧.cast self.old ≡ None }
+        ensures kept { (start : _) (handled sent : List (List (Body Offer))) → KeepsRelaxed start handled sent self.old
+            → KeepsRelaxed start handled (append_others (⟦<Relax<L, A> as Program>⟧.own self.old) (Mark result) sent) self.new }
+        ensures cast { ⟦<Relax<L, A> as Program>⟧.cast self.new ≡ Some result }
+        ensures form { IsNarrow result }
+        ensures of_agenda { A.IsVote (agenda_in self.old) (state_of self.old).sends result }
+        ensures same_own { ⟦<Relax<L, A> as Program>⟧.own self.new ≡ ⟦<Relax<L, A> as Program>⟧.own self.old }
+        ensures same_size { ⟦<Relax<L, A> as Program>⟧.size self.new ≡ ⟦<Relax<L, A> as Program>⟧.size self.old }
+        ensures same_round { ⟦<Relax<L, A> as Program>⟧.round self.new ≡ ⟦<Relax<L, A> as Program>⟧.round self.old }
+        ensures same_idle { ⟦<Relax<L, A> as Program>⟧.idle self.new ≡ ⟦<Relax<L, A> as Program>⟧.idle self.old }
+        ensures same_ended { ⟦<Relax<L, A> as Program>⟧.ended self.new ≡ ⟦<Relax<L, A> as Program>⟧.ended self.old }
+    {
         let vote = self.frontier.agenda.vote(self.sends);
         self.cast = Some(vote);
         vote
     }
 
-    fn round_end(&mut self, votes: &[Vote]) -> Next {
+    fn round_end(&mut self, votes: &[Vote]) -> Next
+        requires running { ⟦<Relax<L, A> as Program>⟧.ended self.old ≡ false }
+        requires each { length votes.now ≡ ⟦<Relax<L, A> as Program>⟧.size self.old }
+        requires mine { slice_get votes.now (⟦<Relax<L, A> as Program>⟧.own self.old) ≡ ⟦<Relax<L, A> as Program>⟧.cast self.old }
+        ensures kept { (start : _) (handled sent : List (List (Body Offer))) → KeepsRelaxed start handled sent self.old
+            → KeepsRelaxed start (append_marks (⟦<Relax<L, A> as Program>⟧.own self.old) votes.now handled) sent self.new }
+        ensures stops { OnStop result (AreQuiet votes.now) }
+        ensures goes_on { OnAgain result (AreQuiet votes.now → ⊥) }
+        ensures agreed { OnAgain result (A.HasBegun (agenda_in self.old) votes.now (agenda_in self.new)) }
+        ensures stop { ⟦<Relax<L, A> as Program>⟧.ended self.new ≡ is_stop result }
+        ensures again { OnAgain result (⟦<Relax<L, A> as Program>⟧.round self.new ≡ ⟦<Relax<L, A> as Program>⟧.round self.old + 1) }
+        ensures uncast { OnAgain result (⟦<Relax<L, A> as Program>⟧.cast self.new ≡ None) }
+        ensures not_idle { OnAgain result (⟦<Relax<L, A> as Program>⟧.idle self.new ≡ false) }
+        ensures last_round { OnStop result (⟦<Relax<L, A> as Program>⟧.round self.new ≡ ⟦<Relax<L, A> as Program>⟧.round self.old) }
+        ensures last_vote { OnStop result (⟦<Relax<L, A> as Program>⟧.cast self.new ≡ ⟦<Relax<L, A> as Program>⟧.cast self.old) }
+        ensures same_own { ⟦<Relax<L, A> as Program>⟧.own self.new ≡ ⟦<Relax<L, A> as Program>⟧.own self.old }
+        ensures same_size { ⟦<Relax<L, A> as Program>⟧.size self.new ≡ ⟦<Relax<L, A> as Program>⟧.size self.old }
+    {
+        // For the facts that it ensures.
         let _rank = self.part.rank();
         if are_quiet(votes) {
             self.ended = true;

@@ -41,6 +41,18 @@ impl Table {
         (value.hops != u32::MAX).then_some(value)
     }
 
+    /// Whether the place has a value, and it is at most this one.
+    pub(crate) fn has_at_most(&self, place: u32, value: Value) -> bool
+        requires { place < length self.now.values.items }
+        ensures most { result ≡ true → HasAtMost (value_at self.now.values.items place) value }
+        ensures not { result ≡ false → HasAtMost (value_at self.now.values.items place) value → ⊥ }
+    {
+        match self.value(place) {
+            Some(held) => !value.is_below(held),
+            None => false,
+        }
+    }
+
     /// Gives the place this value, if what it has isn't as low. Answers whether it did.
     pub(crate) fn lower(&mut self, place: u32, value: Value) -> bool
         requires place { place < length self.old.values.items }

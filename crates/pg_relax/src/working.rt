@@ -7,8 +7,8 @@ ghost use Rattle.pg_group.specs.Ranked.{IsOther, append_at};
 ghost use Rattle.pg_group.specs.Supersteps.{AreUnmarked, OnMore, OnIdle, OnBlocked};
 ghost use Rattle.pg_agenda.specs.Shares.{AreNone, AreSame};
 ghost use Rattle.pg_best.specs.declared.offers.Offer.{Offer};
-ghost use Rattle.pg_relax.specs.Items.{IsItem, IsTakenUp};
-ghost use Rattle.pg_relax.specs.Offered.{AreOffered};
+ghost use Rattle.pg_relax.specs.Items.{IsItem, IsTakenUp, SendsOnlyNew};
+ghost use Rattle.pg_relax.specs.Offered.{AreOffered, FindsGhosts};
 ghost use Rattle.pg_relax.specs.Passing.{KeepsOn};
 ghost use Rattle.pg_relax.specs.States.{Relaxes, label_of, row};
 
@@ -36,7 +36,7 @@ fn if_left(part: &Part, ahead: Ahead) -> Option<Ahead>
 pub(crate) fn take_up<A: Agenda>(part: &Part, frontier: &mut Frontier<A>) -> Option<Option<Ahead>>
     requires { length frontier.old.table.values.items ≡ length part.now.vertices }
     ensures none { IfNone result (AreNone (A.ready frontier.new.agenda)) }
-    ensures taken { IfSome result (λ _. IsTakenUp (A.pending frontier.old.agenda) (A.pending frontier.new.agenda)) }
+    ensures taken { IfSome result (IsTakenUp part.now (A.ready frontier.old.agenda) (A.pending frontier.old.agenda) (A.pending frontier.new.agenda)) }
     ensures values { IfNone result (frontier.new.table.values.items ≡ frontier.old.table.values.items) }
     ensures pending { IfNone result (AreSame (A.pending frontier.old.agenda) (A.pending frontier.new.agenda)) }
     ensures takes { AreSame (A.takes frontier.old.agenda) (A.takes frontier.new.agenda) }
@@ -80,6 +80,7 @@ pub(crate) fn go_on<L: Label, A: Agenda, O: Outbox<Offer>>(
     requires place { ahead.place < length part.now.vertices }
     requires each { length frontier.old.table.values.items ≡ length part.now.vertices }
     requires each_ghost { length offered.old.table.values.items ≡ length part.now.ghosts }
+    requires finds { FindsGhosts part.now.ghosts offered.old.slots.items }
     requires own { O.own out.old ≡ part.now.rank }
     requires size { O.size out.old ≡ part.now.ranks }
     requires unmarked { AreUnmarked (O.marks_sent out.old) }
@@ -91,13 +92,16 @@ pub(crate) fn go_on<L: Label, A: Agenda, O: Outbox<Offer>>(
         → AreOffered part.now (O.sent out.new) offered.new.table.values.items }
     ensures sent { result.sent ≡ true → (to : _) × (offer : Offer) × IsOther part.now.rank part.now.ranks to × (O.sent out.new ≡ append_at (O.sent out.old) to (Item offer)) }
     ensures unsent { result.sent ≡ false → O.sent out.new ≡ O.sent out.old }
-    ensures more { OnMore result.worked (IsItem (A.pending frontier.old.agenda) (A.pending frontier.new.agenda) (Some ahead) result.ahead) }
+    ensures only_new { SendsOnlyNew part.now (O.sent out.old) offered.old.table.values.items (O.sent out.new) offered.new.table.values.items }
+    ensures more { OnMore result.worked (IsItem part.now (A.ready frontier.old.agenda) (A.pending frontier.old.agenda) (A.pending frontier.new.agenda) (Some ahead) result.ahead) }
     ensures not_idle { OnIdle result.worked ⊥ }
     ensures blocked { OnBlocked result.worked (λ to. IsOther part.now.rank part.now.ranks to × O.saw_full out.old to out.new) }
     ensures blocked_did { OnBlocked result.worked (λ _. (frontier.new ≡ frontier.old) × (offered.new ≡ offered.old) × (result.ahead ≡ Some ahead) × (result.sent ≡ false)) }
+    ensures takes { AreSame (A.takes frontier.old.agenda) (A.takes frontier.new.agenda) }
     ensures next_place { ForSome result.ahead (λ h. h.place < length part.now.vertices) }
     ensures next { ForSome result.ahead (λ h. h.next < length (row part.now h.place)) }
     ensures same_count { length frontier.new.table.values.items ≡ length frontier.old.table.values.items }
+    ensures same_slots { offered.new.slots ≡ offered.old.slots }
     ensures same_ghosts { length offered.new.table.values.items ≡ length offered.old.table.values.items }
     ensures out_own { O.own out.new ≡ O.own out.old }
     ensures out_size { O.size out.new ≡ O.size out.old }

@@ -36,14 +36,15 @@ module _ {L A : Type 0} {l : LabelGhosts L} {a : AgendaGhosts A} where
     pub handled_is : (from : ℕ) → IsOther rank ranks from → list_at handled from ≡ taken from rank
     pub sent_is : (to : ℕ) → IsOther rank ranks to → list_at promised to ≡ sent rank to
 
-  -- A program for each part, new over it, whose agenda's shares take the arcs of these weights, and a lane of this capacity for each
-  -- sender and receiver. All that was sent was taken, and each program has ended and kept its promise.
+  -- A program for each part, new over it, whose agenda's shares take the arcs of these weights from first to last, and a lane of this
+  -- capacity for each sender and receiver. All that was sent was taken, and each program has ended and kept its promise.
   pub record IsRunOver (label : L) (takes : Places) (ranks : ℕ) (parts : List Portion) (capacity : ℕ) (programs : List (Relax L A l a)) (lanes : List (Settled (Envelope Offer))) : Type 0 where
     pub openings : List (Relax L A l a)
     pub opened : map part_in openings ≡ parts
     pub new : Each (λ rank p. IsNewRelax p) openings
     pub labels : Each (λ rank p. label_in p ≡ label) openings
     pub shares : Each (λ rank p. (share : Share) (w : ℕ) → (state_of p).takes share w ≡ takes share w) openings
+    pub final_shares : Each (λ rank p. (share : Share) (w : ℕ) → (state_of p).takes share w ≡ takes share w) programs
     pub count : length programs ≡ ranks
     pub lane_for_each : AreWhole ranks lanes
     pub capacities : EachLane ranks lanes (λ lane. settled_capacity lane ≡ capacity)

@@ -92,6 +92,7 @@ pub(crate) fn relax<
     ensures laws { IsSharing (D.sharing dist.now) }
     ensures found { IfOk result (λ f. IsRelaxation label (M.takes agendas.now) (D.sharing dist.now) graph crew.now.capacity f.programs.items f.lanes.items) }
 {
+    // For the facts that it ensures.
     let _ranks = dist.ranks();
     let parts = split(alloc, &graph, dist)?;
     drop(graph);

@@ -145,6 +145,7 @@ fn least_arcs<W: Threads + Wait + Sync, G: Gate>(
         r.answers.of_vertices.items r.finished.programs.items r.finished.lanes.items) }
     ensures least { IfOk result (λ r. AreLeastArcs input.graph source r.answers.of_vertices.items) }
 {
+    // For the facts that it ensures.
     let _n = input.graph.n();
     let label = Hops { source };
     relax_input(
@@ -176,6 +177,7 @@ fn least_weights<W: Threads + Wait + Sync, G: Gate>(
         r.answers.of_vertices.items r.finished.programs.items r.finished.lanes.items) }
     ensures least { IfOk result (λ r. AreLeastWeights input.graph source r.answers.of_vertices.items) }
 {
+    // For the facts that it ensures.
     let _most = heaviest(&input.graph);
     let label = Weight { source };
     let buckets = ByBucket { delta };
@@ -205,6 +207,7 @@ fn lowest<W: Threads + Wait + Sync, G: Gate>(
         r.answers.of_vertices.items r.finished.programs.items r.finished.lanes.items) }
     ensures lowest { IfOk result (λ r. AreLowest input.graph r.answers.of_vertices.items) }
 {
+    // For the facts that it ensures.
     let _n = input.graph.n();
     relax_input(
         token,

@@ -1,8 +1,9 @@
 use denote.Exit.{no}
 use denote.Param.{copied, param}
 use denote.Param.Send.{param_send, arg_send}
-use Rattle.std.proofs.Common.{◌≡◌, ◌∙◌, ◌-◌, length, sym, ap, subst}
+use Rattle.std.proofs.Common.{◌≡◌, ◌∙◌, ◌-◌, Some, length, sym, ap, subst, arith}
 use Rattle.std.specs.Prelude.{slice_get}
+use Rattle.std.proofs.lemmas.Option.{slice_get_within}
 use Rattle.pg_group.proofs.ByRank.{length_of_map}
 use Rattle.pg_group.specs.Ranked.{place_of}
 use Rattle.pg_relax.specs.Shown.{part_in}
@@ -36,6 +37,11 @@ returns g c =
       new = made.new;
       labels = made.labels;
       shares = made.shares;
+      final_shares = λ rank p at share w.
+          let s = entry_below openings rank (omega (arith, slice_get_within c.run.result.programs.items rank p at, ran.programs, group.count)) in
+          let k = from_openings opening_of machines openings group.openings (λ r was now. KeepsOver _ (length machines) r (sent_on (length machines) c.run.result.lanes.items) (taken_on (length machines) c.run.result.lanes.items) was now)
+          c.run.result.programs.items ran.keeps rank p s.0 at s.1 in
+          k.keeps.takes share w ∙ made.shares rank s.0 s.1 share w;
       count = ran.programs;
       lane_for_each = ran.lanes;
       capacities = λ sender receiver lane is.

@@ -1,3 +1,4 @@
+use Rattle.std.proofs.Common.{◌∙◌}
 use Rattle.pg_relax.specs.Rounds.{count_of}
 use Rattle.pg_relax.specs.States.{label_of}
 use Rattle.pg_group.specs.declared.messages.Body.TheVariants.{Mark}
@@ -12,6 +13,7 @@ returns-clause-kept g c = λ start handled sent kept.
     let said = c.vote-vote.ensures in record {
       part = kept.part;
       label = kept.label;
+      takes = λ share w. said.same_takes share w ∙ kept.takes share w;
       offered = offered_marked c.args.self.now.part sent (append_others c.args.self.now.part.rank (Mark c.vote-vote.result) sent) c.args.self.now.offered.table.values.items
           (voted_items c.args.self.now.part.rank c.vote-vote.result sent) kept.offered;
       relaxed = at_vote (label_of (g.L.Label.start c.args.self.now.label) (g.L.Label.add c.args.self.now.label)) c.args.self.now.part (g.A.Agenda.takes c.args.self.now.frontier.agenda) (g.A.Agenda.takes c.vote-vote.new.self) handled sent c.args.self.now.frontier.table.values.items c.args.self.now.frontier.table.values.items
