@@ -62,13 +62,14 @@ listed_clash : (part : Portion) (own seen : Cells) (k : ℕ) (list : List ℕ) �
 listed_clash part own seen k list clash are = record {
   clashes = λ place. (
     λ among. ⊎_elim
-      (λ before. let h = (are.clashes place).0 before in (omega (arith, h.0), h.1))
-      (λ same. (omega (arith, same), subst (IsClash part own seen) same clash))
-      (Contains-push_cases list k place among),
+        (λ before. let h = (are.clashes place).0 before in (omega (arith, h.0), h.1))
+        (λ same. (omega (arith, same), subst (IsClash part own seen) same clash))
+        (Contains-push_cases list k place among),
     λ h. elim (cases_eq place k) [
       | inl same ↦ subst (Contains (list ++ k ∷ [])) (sym same) (Contains-push list k)
       | inr apart ↦ Contains-append_left list (k ∷ []) place ((are.clashes place).1 (omega (arith, h.0, apart), h.1))
-    ]);
+    ],
+  );
   ascend = all_pairs_push (λ a b. a < b) list k are.ascend are.below;
   below = All-push (λ a. a < k + 1) list k (λ i d less. omega (arith, are.below i d less)) (omega arith);
   few = omega (arith, are.few, length-append list (k ∷ []));
@@ -84,7 +85,8 @@ listed_none part own seen k list none are = record {
     λ h. elim (cases_eq place k) [
       | inl same ↦ absurd (none (subst (IsClash part own seen) same h.1))
       | inr apart ↦ (are.clashes place).1 (omega (arith, h.0, apart), h.1)
-    ]);
+    ],
+  );
   ascend = are.ascend;
   below = λ i d less. omega (arith, are.below i d less);
   few = omega (arith, are.few);

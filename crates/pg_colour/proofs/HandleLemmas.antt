@@ -14,9 +14,8 @@ use Rattle.pg_group.specs.declared.messages.Body.{Body}
 use Rattle.pg_group.specs.declared.messages.Body.TheVariants.{Item}
 use Rattle.pg_group.specs.Ranked.{IsOther, append_at}
 use Rattle.pg_colour.specs.declared.colouring.Colouring.{Colouring}
-use Rattle.pg_colour.specs.declared.TheConstants.{NO_COLOUR}
 use Rattle.pg_colour.specs.LocalColour.{LocalColour, State}
-use Rattle.pg_colour.specs.Refreshed.{IsRefreshFrom, values_for, last_or}
+use Rattle.pg_colour.specs.Refreshed.{values_for, last_or}
 use Rattle.pg_colour.specs.Rounds.{count_of}
 use Rattle.pg_colour.specs.Seen.{at_places, at_slots, colour_of}
 use Rattle.pg_colour.specs.Shown.{state_of}
@@ -44,9 +43,9 @@ pub refresh_kept : (c : Colouring) (cells : Cells LastWins) (t : State) (handled
     → LocalColour c.part handled sent (state_of c) → LocalColour c.part (append_at handled from (Item body)) sent t
 refresh_kept c cells t handled sent from slot value body other is step round cast ended list done own seen keeps =
     let after : cells_of cells ≡ record (cells_of c.cells) { ghosts = set (cells_of c.cells).ghosts slot (Some value) } =
-      step ∙ ap (λ (b : CellBody). after_body (λ old new. new) (λ v. c.cells.resolver.start) b (cells_of c.cells)) is in
+    step ∙ ap (λ (b : CellBody). after_body (λ old new. new) (λ v. c.cells.resolver.start) b (cells_of c.cells)) is in
     let many : length (cells_of c.cells).ghosts ≡ length c.part.ghosts =
-      c.cells.ghosts_each ∙ (ap (λ (gs : List _). length gs) c.cells.held ∙ ap (λ (p : Portion). length p.ghosts) c.same_part) in
+    c.cells.ghosts_each ∙ (ap (λ (gs : List _). length gs) c.cells.held ∙ ap (λ (p : Portion). length p.ghosts) c.same_part) in
     handling_keeps c.part handled sent (state_of c) t from body other
     (record {
       round = round;

@@ -1,16 +1,13 @@
 -- What a colouring keeps as it works, votes and goes on.
-use Rattle.std.proofs.Common.{◌≡◌, ◌⊎◌, ◌<◌, ◌∙◌, ◌+◌, ◌*◌, ℕ, Bool, true, false, List, [], Option, Some, None, length, slice_get, refl, sym, subst, ap, inl, inr, ⊎_elim, arith}
+use Rattle.std.proofs.Common.{◌≡◌, ◌<◌, ◌∙◌, ◌+◌, ◌*◌, ℕ, true, false, List, Option, Some, None, length, slice_get, sym, subst, ap, arith}
 use Rattle.pg_adj.specs.Portions.{Portion}
 use Rattle.pg_cells.specs.declared.bodies.CellBody.{CellBody}
-use Rattle.pg_cells.specs.declared.phases.Phase.{Phase}
 use Rattle.pg_cells.specs.declared.phases.Phase.TheVariants.{Filling, Refreshing}
-use Rattle.pg_cells.specs.States.{refreshes_of}
 use Rattle.pg_group.specs.declared.messages.Body.{Body}
-use Rattle.pg_group.specs.declared.messages.Body.TheVariants.{Item, Mark}
+use Rattle.pg_group.specs.declared.messages.Body.TheVariants.{Mark}
 use Rattle.pg_group.specs.declared.messages.Vote.{Vote}
 use Rattle.pg_group.specs.declared.programs.Worked.{Worked}
 use Rattle.pg_group.specs.declared.programs.Worked.TheVariants.{More, Idle, Blocked}
-use Rattle.pg_group.specs.Ranked.{IsOther, append_at}
 use Rattle.pg_group.specs.Supersteps.{OnMore, OnIdle, OnBlocked, append_marks, append_others}
 use Rattle.pg_group.proofs.Counting.{some_at}
 use Rattle.pg_colour.specs.declared.colouring.Colouring.{Colouring}
@@ -47,8 +44,8 @@ refreshed_kept part s t handled sent more uncast did keeps =
     let odd = refreshes_odd s.round did.refresh in
     subst (λ (lists : List (List (Body CellBody))). LocalColour part handled lists t) (sym did.sends)
     (sending_keeps part handled sent s t odd.0 did.pending (omega (arith, odd.1)) did.next did.other
-      (record { uncast = uncast; round = did.stays.round; cast = did.stays.cast ∙ uncast; ended = did.stays.ended; list = did.stays.list; done = did.done; seen = λ slot below. did.seen slot })
-      did.own keeps)
+    (record { uncast = uncast; round = did.stays.round; cast = did.stays.cast ∙ uncast; ended = did.stays.ended; list = did.stays.list; done = did.done; seen = λ slot below. did.seen slot })
+    did.own keeps)
 
 -- Nothing was done.
 pub rested_kept : (part : Portion) (s t : State) (handled sent more : List (List (Body CellBody))) → t ≡ s → more ≡ sent → LocalColour part handled sent s → LocalColour part handled more t

@@ -1,5 +1,5 @@
 -- What a colouring knows once it has sent a refresh, or has none left to send.
-use Rattle.std.proofs.Common.{◌≡◌, ◌≢◌, ◌<◌, ◌≤◌, ◌∙◌, ◌+◌, ◌^◌, ℕ, Bool, true, false, List, Option, Some, None, All, length, slice_get, refl, sym, ap, subst, arith}
+use Rattle.std.proofs.Common.{◌≡◌, ◌<◌, ◌≤◌, ◌∙◌, ◌+◌, ℕ, Bool, false, List, Option, Some, None, All, length, slice_get, refl, sym, ap, subst, arith}
 use Rattle.std.proofs.lemmas.Option.{get_or_from_slice_get, slice_get_within}
 use Rattle.std.specs.Vec.{vec_len}
 use Rattle.pg_adj.specs.Portions.{IsForeign, Portion}
@@ -93,12 +93,12 @@ module _ (c : Colouring) (refresh : phase_in (count_of c.rounds) ≡ Refreshing)
         let at = subst (λ (p : Portion). slice_get (refreshes_of p) c.next ≡ Some pending) c.same_part is_sent.at in
         let entries : c.cells.refreshes.entries.items ≡ refreshes_of c.part = c.cells.entries ∙ ap (λ (p : Portion). refreshes_of p) c.same_part in
         let away : IsForeign c.part pending.holder.rank.0 =
-          subst (λ (p : Portion). IsForeign p pending.holder.rank.0) c.same_part
-          (subst (λ (d : PendingRefresh). IsForeign c.cells.part.value d.holder.rank.0) (get_or_from_slice_get (refreshes_of c.part) c.next pending pending at)
-          (subst (λ (ds : List PendingRefresh). All (λ p. IsForeign c.cells.part.value p.holder.rank.0) ds) entries c.cells.holders c.next pending (slice_get_within (refreshes_of c.part) c.next pending at))) in
+        subst (λ (p : Portion). IsForeign p pending.holder.rank.0) c.same_part
+        (subst (λ (d : PendingRefresh). IsForeign c.cells.part.value d.holder.rank.0) (get_or_from_slice_get (refreshes_of c.part) c.next pending pending at)
+        (subst (λ (ds : List PendingRefresh). All (λ p. IsForeign c.cells.part.value p.holder.rank.0) ds) entries c.cells.holders c.next pending (slice_get_within (refreshes_of c.part) c.next pending at))) in
         let foreign : IsOther c.part.rank c.part.ranks pending.holder.rank.0 = (away.below, away.other) in
         let value = own_of_pending (cells_of c.cells).own (refreshes_of c.part) c.next pending
-          (subst (λ (ds : List PendingRefresh). All (λ p. p.place < length (cells_of c.cells).own) ds) entries c.cells.pending_places) at in
+        (subst (λ (ds : List PendingRefresh). All (λ p. p.place < length (cells_of c.cells).own) ds) entries c.cells.pending_places) at in
         let is : body ≡ refresh_of (state_of c).own pending = is_sent.is ∙ ap (λ (x : ℕ). Refresh pending.holder.slot x) value in
         record {
           refresh = refresh;

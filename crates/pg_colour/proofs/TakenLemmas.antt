@@ -97,18 +97,18 @@ pub one_marked : (part : Portion) (own seen : Cells) (place k : ℕ) (stamps mor
     → length more ≡ length stamps
     → AreMarked part own seen place k stamps stamp → AreMarked part own seen place (k + 1) more after
 one_marked part own seen place k stamps more stamp after result arc at ends taken same before d small real = (
-    λ marked. ⊎_elim
-    (λ here. record { index = k; arc = arc; below = omega arith; stands = at; ends = (ends d real).1 (sym here.0) })
-    (λ was. let t = (before d (omega (arith, same, small)) real).0 was in record { index = t.index; arc = t.arc; below = omega (arith, t.below); stands = t.stands; ends = t.ends })
-    ((taken d).0 marked),
-    λ t. (taken d).1 (elim (cases_lt t.index k) [
-      | inl earlier ↦ inr ((before d (omega (arith, same, small)) real).1 (record { index = t.index; arc = t.arc; below = earlier; stands = t.stands; ends = t.ends }))
-      | inr late ↦
-          let here : t.index ≡ k = omega (arith, t.below, late) in
-          let is : t.arc ≡ arc = same_Some t.arc arc (sym t.stands ∙ (ap (slice_get (row part place)) here ∙ at)) in
-          inl (sym ((ends d real).0 (subst (λ (a : Arc). EndsAt part own seen a d) is t.ends)), omega (arith, same, small))
-    ])
-  )
+  λ marked. ⊎_elim
+      (λ here. record { index = k; arc = arc; below = omega arith; stands = at; ends = (ends d real).1 (sym here.0) })
+      (λ was. let t = (before d (omega (arith, same, small)) real).0 was in record { index = t.index; arc = t.arc; below = omega (arith, t.below); stands = t.stands; ends = t.ends })
+      ((taken d).0 marked),
+  λ t. (taken d).1 (elim (cases_lt t.index k) [
+    | inl earlier ↦ inr ((before d (omega (arith, same, small)) real).1 (record { index = t.index; arc = t.arc; below = earlier; stands = t.stands; ends = t.ends }))
+    | inr late ↦
+        let here : t.index ≡ k = omega (arith, t.below, late) in
+        let is : t.arc ≡ arc = same_Some t.arc arc (sym t.stands ∙ (ap (slice_get (row part place)) here ∙ at)) in
+        inl (sym ((ends d real).0 (subst (λ (a : Arc). EndsAt part own seen a d) is t.ends)), omega (arith, same, small))
+  ]),
+)
 
 pub taken_from : (part : Portion) (own seen : Cells) (place k d : ℕ) → IsTakenBelow part own seen place k d → IsTaken part own seen place d
 taken_from part own seen place k d t = record { arc = t.arc; among = Contains-at (row part place) t.index t.arc t.stands; ends = t.ends }
@@ -134,16 +134,16 @@ pub taken_by_few : (part : Portion) (own seen : Cells) (slots : List (Option ℕ
 taken_by_few part own seen slots place c whole below are is taken =
     held_by_few (HasEnd part own seen place) (length (row part place)) c
     (λ k less.
-      let some : Arc = record { to = record { 0 = 0 }; home = record { 0 = 0 }; place = 0; w = 0; edge = 0 } in
-      let arc : Arc = get_or (row part place) k some in
-      let at : slice_get (row part place) k ≡ Some arc = slice_get-get_or (row part place) k some less in
-      let slot = slot_here part slots place (row part place) (row_of part.bounds slots place) k some whole below are refl refl less in
-      let one = one_end part own seen arc (get_or (row_of part.bounds slots place) k None) whole (is arc k at) slot in
-      (one.0, λ d has. one.1 d (subst (λ (a : Arc). EndsAt part own seen a d) (same_Some has.0 arc (sym has.1 ∙ at)) has.2)))
+    let some : Arc = record { to = record { 0 = 0 }; home = record { 0 = 0 }; place = 0; w = 0; edge = 0 } in
+    let arc : Arc = get_or (row part place) k some in
+    let at : slice_get (row part place) k ≡ Some arc = slice_get-get_or (row part place) k some less in
+    let slot = slot_here part slots place (row part place) (row_of part.bounds slots place) k some whole below are refl refl less in
+    let one = one_end part own seen arc (get_or (row_of part.bounds slots place) k None) whole (is arc k at) slot in
+    (one.0, λ d has. one.1 d (subst (λ (a : Arc). EndsAt part own seen a d) (same_Some has.0 arc (sym has.1 ∙ at)) has.2)))
     (λ d less.
-      let t = taken d less in
-      let at = index_of (row part place) t.arc t.among in
-      (at.0, slice_get_within (row part place) at.0 t.arc at.1, (t.arc, at.1, t.ends)))
+    let t = taken d less in
+    let at = index_of (row part place) t.arc t.among in
+    (at.0, slice_get_within (row part place) at.0 t.arc at.1, (t.arc, at.1, t.ends)))
 
 -- The first free stamp is the least free colour, and at most the number of arcs.
 pub least_few : (part : Portion) (own seen : Cells) (place : ℕ) (stamps : List ℕ) (stamp c : ℕ)
@@ -153,14 +153,16 @@ pub least_few : (part : Portion) (own seen : Cells) (place : ℕ) (stamps : List
     → IsFirstFree stamps stamp c → (c ≤ length (row part place)) × IsLeastFree part own seen place c
 least_few part own seen place stamps stamp c room small marked most first =
     let taken : (d : ℕ) → d < c → IsTaken part own seen place d =
-      λ d less.
-        let inside : d < length stamps = omega (arith, less, first.within) in
-        (marked d inside (omega (arith, inside, small))).0 (slice_get-get_or stamps d 0 inside ∙ ap Some (first.before d less)) in
-    let few = most c taken in
-    (few, record {
-      colour = omega (arith, few, room, small);
-      free = λ t.
-          let inside : c < length stamps = omega (arith, few, room) in
-          first.free inside (get_or_from_slice_get stamps c stamp 0 ((marked c inside (omega (arith, inside, small))).1 t));
-      least = taken;
-    })
+    λ d less.
+    let inside : d < length stamps = omega (arith, less, first.within) in
+    (marked d inside (omega (arith, inside, small))).0 (slice_get-get_or stamps d 0 inside ∙ ap Some (first.before d less)) in
+    let few = most c taken in (
+      few,
+      record {
+        colour = omega (arith, few, room, small);
+        free = λ t.
+            let inside : c < length stamps = omega (arith, few, room) in
+            first.free inside (get_or_from_slice_get stamps c stamp 0 ((marked c inside (omega (arith, inside, small))).1 t));
+        least = taken;
+      },
+    )

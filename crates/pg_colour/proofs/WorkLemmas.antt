@@ -1,8 +1,8 @@
 -- What the calls of the cells do to what a colouring keeps of them.
-use Rattle.std.proofs.Common.{◌≡◌, ◌≢◌, ◌⊎◌, ℕ, zero, suc, ◌+◌, ◌-◌, ◌<◌, ◌≤◌, ◌^◌, ◌++◌, Bool, true, false, cond, List, Option, Some, None, All, length, get_or, set, replicate, slice_get, refl, sym, ◌∙◌, subst, ap, inl, inr, ⊎_elim, arith}
+use Rattle.std.proofs.Common.{◌≡◌, ◌≢◌, ◌⊎◌, ℕ, zero, suc, ◌+◌, ◌-◌, ◌<◌, ◌≤◌, ◌^◌, Bool, true, false, cond, List, Option, Some, None, All, length, get_or, set, replicate, slice_get, refl, sym, ◌∙◌, subst, ap, inl, inr, arith}
 use Rattle.std.proofs.lemmas.Bool.{cases_eq, cases_lt, eq-eqb, false≢true, ne_eqb}
 use Rattle.std.proofs.lemmas.List.{get_or-set_same, get_or-set_other, get_or_append_left, get_or-append_right, get_or-replicate, get_or_default, length-append, length-replicate, length-set}
-use Rattle.std.proofs.lemmas.Option.{none-some, same_Some, slice_get_within, get_or_from_slice_get}
+use Rattle.std.proofs.lemmas.Option.{none-some, slice_get_within, get_or_from_slice_get}
 use Rattle.std.specs.Prelude.{if◌then◌else◌}
 use Rattle.pg_cells.specs.declared.bodies.CellBody.{CellBody}
 use Rattle.pg_cells.specs.declared.bodies.CellBody.TheVariants.{Refresh}
@@ -10,7 +10,7 @@ use Rattle.pg_cells.specs.declared.phases.Phase.{Phase}
 use Rattle.pg_cells.specs.declared.phases.Phase.TheVariants.{Filling, Closing, Refreshing}
 use Rattle.pg_cells.specs.declared.refreshes.PendingRefresh.{PendingRefresh}
 use Rattle.pg_cells.specs.States.{CellState, NothingLeft, refreshes_of}
-use Rattle.pg_cells.specs.Steps.{CellsStep, Sends, after_round, join_own}
+use Rattle.pg_cells.specs.Steps.{CellsStep, Sends, after_round}
 use Rattle.pg_cells.specs.Steps.Event.{closed, round_ended}
 use Rattle.pg_cells.specs.Unsent.{unsent_from}
 use Rattle.pg_cells.proofs.NextSends.{sent_more}
@@ -103,9 +103,9 @@ is_next count next other after entry most at becomes =
         | inr apart ↦
             let between : next < entry = omega (arith, from, apart) in
             let first : get_or (unsent_from other after) next false ≡ true =
-              ap (λ (fs : List Bool). get_or fs next false) becomes ∙ (get_or-set_other (unsent_from count next) entry next false false (λ e. omega (arith, e, between)) ∙ is_unsent count next next (omega arith) (omega (arith, between, inside, size, most))) in
+            ap (λ (fs : List Bool). get_or fs next false) becomes ∙ (get_or-set_other (unsent_from count next) entry next false false (λ e. omega (arith, e, between)) ∙ is_unsent count next next (omega arith) (omega (arith, between, inside, size, most))) in
             let cleared : get_or (unsent_from other after) entry false ≡ false =
-              ap (λ (fs : List Bool). get_or fs entry false) becomes ∙ get_or-set_same (unsent_from count next) entry false false inside in
+            ap (λ (fs : List Bool). get_or fs entry false) becomes ∙ get_or-set_same (unsent_from count next) entry false false inside in
             let long = ap length becomes in
             let same_size = length-set (unsent_from count next) entry false in
             let total = length-unsent other after in
@@ -144,7 +144,7 @@ sent_next s t next to other after body phase none unsent most shape (inr (inr h)
     let count : ℕ = length (refreshes_of s.part) in
     let at : slice_get (unsent_from count next) h.entry ≡ Some true = subst (λ (fs : List Bool). slice_get fs h.entry ≡ Some true) unsent h.unsent in
     let becomes : unsent_from other after ≡ set (unsent_from count next) h.entry false =
-      sym shape ∙ (ap (λ (c : CellState). c.unsent) h.after ∙ ap (λ (fs : List Bool). set fs h.entry false) unsent) in
+    sym shape ∙ (ap (λ (c : CellState). c.unsent) h.after ∙ ap (λ (fs : List Bool). set fs h.entry false) unsent) in
     let same = is_next count next other after h.entry most at becomes in
     let inside = slice_get_within (refreshes_of s.part) h.entry h.pending h.there in
     record {

@@ -295,34 +295,43 @@ fn colours<M: Mailbox<CellBody>>(alloc: Global, sites: &[Site<M>]) -> Result<Col
     Ok(colours)
 }
 
-// The colours of a graph by one rank or two, after a whole run.
-fn colours_by(alloc: Global, graph: &EdgeList, count: u32, capacity: u32) -> Result<Colours, Fail>
+// Whether these are the colours of a graph by one rank or two, after a whole run.
+fn are_colours(
+    alloc: Global,
+    graph: &EdgeList,
+    count: u32,
+    capacity: u32,
+    expected: &[Option<u32>],
+) -> Result<bool, Fail>
     requires at_least { 1 ≤ capacity }
     requires at_most { capacity ≤ 1024 }
 {
     let mut sites = sites::<RingLanes>(&(), alloc, graph, count, capacity)?;
     run(alloc, &mut sites)?;
-    colours(alloc, &sites)
+    Ok(colours(alloc, &sites)?.as_slice() == expected)
 }
 
 #[test]
-fn one_rank_colours_by_first_fit(rt: HostRuntime) -> Result<(), Fail> {
+fn one_rank_colours_a_path_by_first_fit(rt: HostRuntime) -> Result<(), Fail> {
     let alloc = rt.alloc();
-    let path_colours = [Some(0), Some(0), Some(1)];
-    assert_eq!(rt;
-        colours_by(alloc, &path(alloc)?, 1, 1)?.as_slice(),
-        path_colours.as_slice()
-    );
-    let three = [Some(0), Some(1), Some(2)];
-    assert_eq!(rt;
-        colours_by(alloc, &triangle(alloc)?, 1, 1)?.as_slice(),
-        three.as_slice()
-    );
-    let star_colours = [Some(0), Some(1), Some(1), Some(1)];
-    assert_eq!(rt;
-        colours_by(alloc, &star(alloc)?, 1, 1)?.as_slice(),
-        star_colours.as_slice()
-    );
+    let expected = [Some(0), Some(0), Some(1)];
+    assert!(rt; are_colours(alloc, &path(alloc)?, 1, 1, &expected)?);
+    Ok(())
+}
+
+#[test]
+fn one_rank_colours_a_triangle_by_first_fit(rt: HostRuntime) -> Result<(), Fail> {
+    let alloc = rt.alloc();
+    let expected = [Some(0), Some(1), Some(2)];
+    assert!(rt; are_colours(alloc, &triangle(alloc)?, 1, 1, &expected)?);
+    Ok(())
+}
+
+#[test]
+fn one_rank_colours_a_star_by_first_fit(rt: HostRuntime) -> Result<(), Fail> {
+    let alloc = rt.alloc();
+    let expected = [Some(0), Some(1), Some(1), Some(1)];
+    assert!(rt; are_colours(alloc, &star(alloc)?, 1, 1, &expected)?);
     Ok(())
 }
 
@@ -341,17 +350,19 @@ fn a_vertex_that_clashes_with_a_lesser_one_is_coloured_twice(rt: HostRuntime) ->
 }
 
 #[test]
-fn two_ranks_colour_a_mesh_with_lanes_of_any_room(rt: HostRuntime) -> Result<(), Fail> {
+fn two_ranks_colour_a_mesh_with_lanes_of_one_message(rt: HostRuntime) -> Result<(), Fail> {
     let alloc = rt.alloc();
-    let graph = mesh(alloc)?;
-    for capacity in [1, 2, 64] {
-        // 4, 5 and 6 clash with 1, 2 and 3. Then 4 differs from 1 and 5, 5 from 2, 4 and 6, and 6 from 3 and 5.
-        let expected = [Some(0), Some(1), Some(0), Some(2), Some(3), Some(1)];
-        assert_eq!(rt;
-            colours_by(alloc, &graph, 2, capacity)?.as_slice(),
-            expected.as_slice()
-        );
-    }
+    // 4, 5 and 6 clash with 1, 2 and 3. Then 4 differs from 1 and 5, 5 from 2, 4 and 6, and 6 from 3 and 5.
+    let expected = [Some(0), Some(1), Some(0), Some(2), Some(3), Some(1)];
+    assert!(rt; are_colours(alloc, &mesh(alloc)?, 2, 1, &expected)?);
+    Ok(())
+}
+
+#[test]
+fn two_ranks_colour_a_mesh_with_wide_lanes(rt: HostRuntime) -> Result<(), Fail> {
+    let alloc = rt.alloc();
+    let expected = [Some(0), Some(1), Some(0), Some(2), Some(3), Some(1)];
+    assert!(rt; are_colours(alloc, &mesh(alloc)?, 2, 64, &expected)?);
     Ok(())
 }
 

@@ -1,4 +1,3 @@
-use Rattle.std.proofs.Common.{◌≡◌}
 use Rattle.pg_cells.specs.Shown.{state_of}
 use Rattle.pg_colour.specs.Seen.{at_places, at_slots}
 use Rattle.pg_colour.proofs.ClashLemmas.{HasNone}

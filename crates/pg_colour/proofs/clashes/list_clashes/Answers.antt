@@ -24,19 +24,20 @@ loop-place-preserved c =
     let seen = at_slots (state_of c.args.cells.now).ghosts in
     elim c.if-clashes.branch [
       | then-clashes w ↦ record {
-          listed = listed_push part own seen c.loop-place.place c.loop-place.list.items c.if-clashes.list.items (c.clashes.ensures.0 w.if-clashes.true) c.loop-place.invariant.listed
-              (ap (λ (v : _). v.items) w.list-is ∙ w.push_reserved.ensures.items);
-          room = ap vec_capacity w.list-is ∙ (w.push_reserved.ensures.capacity ∙ c.loop-place.invariant.room);
-        }
+        listed = listed_push part own seen c.loop-place.place c.loop-place.list.items c.if-clashes.list.items (c.clashes.ensures.0 w.if-clashes.true) c.loop-place.invariant.listed
+            (ap (λ (v : _). v.items) w.list-is ∙ w.push_reserved.ensures.items);
+        room = ap vec_capacity w.list-is ∙ (w.push_reserved.ensures.capacity ∙ c.loop-place.invariant.room);
+      }
       | else-clashes w ↦ record {
-          listed = listed_skip part own seen c.loop-place.place c.loop-place.list.items c.if-clashes.list.items (λ clash. false≢true (sym w.if-clashes.false ∙ c.clashes.ensures.1 clash)) c.loop-place.invariant.listed
-              (ap (λ (v : _). v.items) w.list-is);
-          room = ap vec_capacity w.list-is ∙ c.loop-place.invariant.room;
-        }
+        listed = listed_skip part own seen c.loop-place.place c.loop-place.list.items c.if-clashes.list.items (λ clash. false≢true (sym w.if-clashes.false ∙ c.clashes.ensures.1 clash)) c.loop-place.invariant.listed
+            (ap (λ (v : _). v.items) w.list-is);
+        room = ap vec_capacity w.list-is ∙ c.loop-place.invariant.room;
+      }
     ]
 
 pub returns-clause-clashes : goal.returns-clause-clashes
 returns-clause-clashes c = λ place.
-    let here = c.loop-place.invariant.listed.clashes place in
-    (λ among. let h = here.0 among in (omega (arith, h.0, c.count-place-end.ensures.value, c.loop-place.auto.place-end), h.1),
-     λ h. here.1 (omega (arith, h.0, c.count-place-end.ensures.value, c.loop-place-test.false), h.1))
+    let here = c.loop-place.invariant.listed.clashes place in (
+      λ among. let h = here.0 among in (omega (arith, h.0, c.count-place-end.ensures.value, c.loop-place.auto.place-end), h.1),
+      λ h. here.1 (omega (arith, h.0, c.count-place-end.ensures.value, c.loop-place-test.false), h.1),
+    )

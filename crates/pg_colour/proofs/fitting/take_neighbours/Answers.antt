@@ -1,9 +1,8 @@
-use Rattle.std.proofs.Common.{◌≡◌, ◌≤◌, ◌∙◌, List, Some, length, get_or, refl, subst, sym, ap, arith}
+use Rattle.std.proofs.Common.{◌≡◌, ◌≤◌, ◌∙◌, List, Some, length, get_or, subst, sym, ap, arith}
 use Rattle.std.proofs.lemmas.Option.{get_or_from_slice_get, slice_get_within, slice_get-get_or}
 use Rattle.pg_adj.specs.Portions.{IsOwnArc}
 use Rattle.pg_adj.specs.declared.arcs.Arc.{Arc}
 use Rattle.pg_cells.specs.Shown.{state_of}
-use Rattle.pg_colour.specs.Passes.{row}
 use Rattle.pg_colour.specs.Seen.{at_places, at_slots}
 use Rattle.std.specs.Prelude.{slice_get}
 use Rattle.pg_colour.proofs.OpeningLemmas.{few_arcs}
@@ -39,9 +38,9 @@ pub returns-clause-few : goal.returns-clause-few
 returns-clause-few c = λ k taken.
     taken_by_few c.args.part.now (at_places (state_of c.args.cells.now).own) (at_slots (state_of c.args.cells.now).ghosts) c.args.slots.now c.args.place k c.n-n.ensures.portion c.requires.place c.requires.slots
     (λ arc j at.
-      let here = subst (λ (xs : List Arc). slice_get xs j ≡ Some arc) (sym c.arcs-arcs.ensures.row) at in
-      let arcs : List Arc = c.arcs-arcs.result.now in
-      subst (IsOwnArc c.args.part.now) (get_or_from_slice_get arcs j arc some_arc here) (c.arcs-arcs.ensures.own j some_arc (slice_get_within arcs j arc here)))
+    let here = subst (λ (xs : List Arc). slice_get xs j ≡ Some arc) (sym c.arcs-arcs.ensures.row) at in
+    let arcs : List Arc = c.arcs-arcs.result.now in
+    subst (IsOwnArc c.args.part.now) (get_or_from_slice_get arcs j arc some_arc here) (c.arcs-arcs.ensures.own j some_arc (slice_get_within arcs j arc here)))
     taken
 
 pub returns-clause-small : goal.returns-clause-small

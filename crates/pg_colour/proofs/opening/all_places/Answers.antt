@@ -1,4 +1,4 @@
-use Rattle.std.proofs.Common.{length, ap, subst, arith, rules, sym, ◌∙◌}
+use Rattle.std.proofs.Common.{length, ap, arith, ◌∙◌}
 use Rattle.std.proofs.lemmas.List.FromFn.{length-range_with_len}
 use Rattle.pg_colour.proofs.OpeningLemmas.{range_more}
 use Rattle.pg_colour.proofs.opening.all_places.Goals as goal

@@ -1,4 +1,4 @@
-use Rattle.std.proofs.Common.{◌≤◌, length, ap, subst, arith, rules, below_more}
+use Rattle.std.proofs.Common.{◌≤◌, length, ap, arith, below_more}
 use Rattle.std.proofs.lemmas.Grind.{common_steps}
 use Rattle.pg_colour.proofs.OpeningLemmas.{few_arcs}
 use Rattle.pg_colour.proofs.opening.most_arcs.Goals as goal

@@ -44,7 +44,7 @@ pub returns-clause-list : goal.returns-clause-list
 returns-clause-list c =
     let self = c.args.self.now in
     let after : state_of c.end_round.new.self ≡ record (state_of self.cells) { phase = Filling } =
-      filling_next (λ old new. new) (λ v. self.cells.resolver.start) (state_of self.cells) (state_of c.end_round.new.self) c.end_round.ensures.step (self.phase ∙ c.requires.refresh) in
+    filling_next (λ old new. new) (λ v. self.cells.resolver.start) (state_of self.cells) (state_of c.end_round.new.self) c.end_round.ensures.step (self.phase ∙ c.requires.refresh) in
     record {
       ascending = c.list_clashes.ensures.ascend;
       clash = λ place.

@@ -1,4 +1,4 @@
-use Rattle.std.proofs.Common.{◌<◌, ◌∙◌, refl, ap, subst}
+use Rattle.std.proofs.Common.{◌<◌, refl, ap, subst}
 use Rattle.std.specs.Prelude.{is_some, Option}
 use Rattle.pg_group.specs.declared.messages.Vote.{Vote}
 use Rattle.pg_colour.specs.Shown.{state_of}
@@ -19,7 +19,7 @@ returns-then-refreshes-clause-kept c = λ start handled sent kept.
     let said = c.begin_pass.ensures in
     kept_by start self c.begin_pass.new.self _ sent said.part kept.part
     (refresh_kept self.part (state_of self) (state_of c.begin_pass.new.self) c.args.votes.now handled sent c.requires.running c.requires.each c.requires.mine within
-      (c.refreshes.ensures.refreshes c.if-refreshes.true) said.turns said.list kept.coloured)
+    (c.refreshes.ensures.refreshes c.if-refreshes.true) said.turns said.list kept.coloured)
 
 pub returns-then-are_nothing-clause-kept : goal.returns-then-are_nothing-clause-kept
 returns-then-are_nothing-clause-kept c = λ start handled sent kept.
@@ -38,4 +38,4 @@ returns-clause-kept c = λ start handled sent kept.
     let said = c.begin_refresh.ensures in
     kept_by start self c.begin_refresh.new.self _ sent said.part kept.part
     (pass_kept self.part (state_of self) (state_of c.begin_refresh.new.self) c.args.votes.now handled sent c.requires.running c.requires.each c.requires.mine within
-      (c.refreshes.ensures.fills c.if-refreshes.false) (c.are_nothing.ensures.not c.if-are_nothing.false) said.turns kept.coloured)
+    (c.refreshes.ensures.fills c.if-refreshes.false) (c.are_nothing.ensures.not c.if-are_nothing.false) said.turns kept.coloured)

@@ -1,4 +1,4 @@
-use Rattle.std.proofs.Common.{refl, ap}
+use Rattle.std.proofs.Common.{ap}
 use Rattle.pg_colour.specs.Shown.{state_of}
 use Rattle.pg_colour.proofs.KeepLemmas.{coloured_kept, kept_by, on_idle, worked_kept}
 use Rattle.pg_colour.proofs.programs.ColouringProgram.work.Goals as goal
@@ -11,7 +11,7 @@ returns-then-refreshes-clause-kept g c = λ start handled kept.
     let more = g.O.Outbox.sent c.refresh_next.new.out in
     kept_by start c.args.self.now c.refresh_next.new.self handled more said.part kept.part
     (worked_kept r c.args.self.now.part (state_of c.args.self.now) (state_of c.refresh_next.new.self) handled sent more c.requires.uncast
-      said.sent said.rests (on_idle r _ _ (λ same. ap (g.O.Outbox.sent) same) said.idle_sends) said.blocked_stays said.blocked_sends kept.coloured)
+    said.sent said.rests (on_idle r _ _ (λ same. ap (g.O.Outbox.sent) same) said.idle_sends) said.blocked_stays said.blocked_sends kept.coloured)
 
 pub returns-then-colour_next-clause-kept : goal.returns-then-colour_next-clause-kept
 returns-then-colour_next-clause-kept g c = λ start handled kept.
