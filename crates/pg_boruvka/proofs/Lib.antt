@@ -29,6 +29,8 @@ pub mod BeginningPhases
 pub mod EndingPhases
 pub mod RoundsEnding
 pub mod Seeking
+pub mod Unhooked
+pub mod DenseRuns
 pub mod PointerWalks
 pub mod PointerPairs
 pub mod LabelMoves

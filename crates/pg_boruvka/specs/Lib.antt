@@ -17,3 +17,4 @@ pub mod Orderly
 pub mod Known
 pub mod Shown
 pub mod Calls
+pub mod Ranks
