@@ -63,7 +63,7 @@ impl Dense {
     /// bytes for each arc, 32 for each vertex of the graph, and one for each edge. `OutOfMemory` comes only where memory is wanting.
     pub fn new(alloc: Global, part: Part, edges: u32) -> Result<Dense, OutOfMemory>
         requires few { edges ≤ MAX_EDGES }
-        requires each { All (λ a. a.edge < edges) part.arcs }
+        requires each { All (λ a. a.edge < edges) (part_of edges part).arcs }
         ensures new { IfOk result (λ d. IsNewDense d) }
         ensures part { IfOk result (λ d. part_in d ≡ part_of edges part) }
     {

@@ -1,13 +1,16 @@
 //! Forests of one to three ranks, driven through their ports by hand.
-ghost use Rattle.std.specs.Prelude.{IfOk, length, ◌≡◌, ◌≤◌, ◌∷◌, [], replicate};
+ghost use Rattle.std.specs.Prelude.{IfOk, length, ◌≡◌, ◌≤◌, ◌<◌, ◌∷◌, [], All, false, true, replicate};
 ghost use Rattle.pg_base.specs.Graph.{IsGraph};
 ghost use Rattle.pg_base.specs.Examples.{edge, graph};
 ghost use Rattle.pg_group.specs.Entries.{Each};
 ghost use Rattle.pg_group.specs.Supersteps.{AreUnmarked};
+ghost use Rattle.pg_base.specs.Keyed.{row_of};
+ghost use Rattle.pg_boruvka.specs.Portions.{part_of};
+ghost use Rattle.pg_boruvka.specs.Known.{part_in};
 
 use super::*;
 use pg_adj::{Part, split};
-use pg_base::{Edge, EdgeList, RankNo, Ranks};
+use pg_base::{Edge, EdgeList, MAX_EDGES, RankNo, Ranks};
 use pg_dist::Block;
 use pg_group::{Mailbox, Next, Polled, Port, Program, Vote, Worked, ports};
 use pg_lane::RingLanes;
@@ -21,8 +24,8 @@ type Seat = Site<Port<Message, RingLanes>>;
 struct Site<M: Mailbox<Message>> {
     dense: Dense,
     port: M,
-    ghost own: { M.own port ≡ dense.rank.0 },
-    ghost size: { M.size port ≡ dense.ranks },
+    ghost own: { M.own port ≡ (part_in dense).rank },
+    ghost size: { M.size port ≡ (part_in dense).ranks },
     ghost unmarked: { AreUnmarked (M.marks_sent port) },
 }
 
@@ -42,6 +45,9 @@ impl<M: Mailbox<Message> + Drop> Site<M> {
     {
         if part.rank().0 as usize != rank || part.ranks().count() != ranks.count() {
             return Err("another rank's part");
+        }
+        if edges > MAX_EDGES || !are_below(&part, edges) {
+            return Err("an arc of no edge");
         }
         let dense = Dense::new(alloc, part, edges).map_err(|_| "no memory")?;
         Ok(Site { dense, port })
@@ -115,11 +121,32 @@ impl<M: Mailbox<Message>> Site<M> {
             return Err("no votes of a round");
         }
         let mine = votes[self.dense.rank.0 as usize];
-        match self.dense.cast {
+        let cast = self.dense.cast;
+        match cast {
             Some(cast) if cast == mine => Ok(self.dense.round_end(votes)),
             _ => Err("another vote"),
         }
     }
+}
+
+// Whether the edges of the part's arcs are some of so many.
+fn are_below(part: &Part, edges: u32) -> bool
+    ensures { result ≡ true → All (λ a. a.edge < edges) (part_of edges part.now).arcs }
+{
+    for place in 0..part.count() {
+        if !row_is_below(part, place, edges) {
+            return false;
+        }
+    }
+    true
+}
+
+// The same of the arcs of one place.
+fn row_is_below(part: &Part, place: u32, edges: u32) -> bool
+    requires { place < length part.now.vertices }
+    ensures { result ≡ true → All (λ a. a.edge < edges) (row_of part.now.bounds part.now.arcs place) }
+{
+    part.arcs(place).iter().all(|arc| arc.edge < edges)
 }
 
 const fn edge(u: u32, v: u32, w: u32) -> Edge
