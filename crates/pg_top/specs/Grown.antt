@@ -21,7 +21,7 @@ use Rattle.pg_boruvka.specs.Shown.{IsNewDense, KeepsDense}
 
 -- Each arc's edge is one of so many.
 abbrev pub HaveEdgesBelow : ℕ → List Portion → Type 0
-HaveEdgesBelow edges parts = All (λ p. All (λ a. a.edge < edges) p.arcs) parts
+HaveEdgesBelow edges parts = All (λ p. All (λ a. a.edge < edges) (part_of edges p).arcs) parts
 
 -- The program has ended, and has kept its promise from its opening state over the lists of the book.
 pub record HasGrown (ranks rank : ℕ) (sent taken : PairLists Message) (start now : Dense) : Type 0 where

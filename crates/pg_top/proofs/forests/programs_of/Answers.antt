@@ -10,7 +10,7 @@ use Rattle.pg_top.proofs.forests.programs_of.Goals as goal
 
 pub new-requires-clause-each : goal.new-requires-clause-each
 new-requires-clause-each c =
-    (all_but_last (λ p. All (λ a. a.edge < c.args.edges) p.arcs) c.loop-part.parts.items c.pop.new.self.items c.in-Some.part c.in-Some.ensures.items c.loop-part.invariant.below).1
+    (all_but_last (λ p. All (λ a. a.edge < c.args.edges) (part_of c.args.edges p).arcs) c.loop-part.parts.items c.pop.new.self.items c.in-Some.part c.in-Some.ensures.items c.loop-part.invariant.below).1
 
 pub loop-part-preserved : goal.loop-part-preserved
 loop-part-preserved c =
@@ -28,7 +28,7 @@ loop-part-preserved c =
           (ap (map made) last ∙ map-append made c.pop.new.self.items (c.in-Some.part ∷ [])) pushed said.part;
       fit = omega (arith, inv.fit, one, two, c.push_reserved.ensures.capacity);
       new = each_reverse (λ p. IsNewDense p) before c.push_reserved.new.self.items r pushed said.new inv.new;
-      below = (all_but_last (λ p. All (λ a. a.edge < c.args.edges) p.arcs) c.loop-part.parts.items c.pop.new.self.items c.in-Some.part last inv.below).0;
+      below = (all_but_last (λ p. All (λ a. a.edge < c.args.edges) (part_of c.args.edges p).arcs) c.loop-part.parts.items c.pop.new.self.items c.in-Some.part last inv.below).0;
     }
 
 pub returns-clause-new : goal.returns-clause-new
