@@ -6,3 +6,13 @@ pub mod LocalDense
 pub mod Whole
 pub mod Steps
 pub mod Example
+pub mod Arcs
+pub mod Noted
+pub mod Chosen
+pub mod Pointers
+pub mod Lowered
+pub mod Numbered
+pub mod Phasing
+pub mod Known
+pub mod Shown
+pub mod Calls

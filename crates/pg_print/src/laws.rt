@@ -1,9 +1,12 @@
-//! What the definitions of this crate's `specs/` say of small columns and of each fault. No call does anything:
+//! What the definitions of this crate's `specs/` say of small columns, forests and summaries, and of each fault. No call does anything:
 //! each is proved to meet the laws that its clauses state.
 
 ghost use Rattle.std.specs.Prelude.{◌≡◌, Some, None, [], ◌∷◌, codes};
 ghost use Rattle.pg_print.specs.Columns.{answer_line, column_text};
+ghost use Rattle.pg_base.specs.Examples.{path_edges};
 ghost use Rattle.pg_print.specs.FaultLines.{fault_line, status_of};
+ghost use Rattle.pg_print.specs.Forests.{edges_at, forest_text};
+ghost use Rattle.pg_print.specs.Summaries.{summary_text};
 
 use crate::Fault;
 use pg_base::Status;
@@ -16,6 +19,27 @@ pub fn answers()
     ensures none { answer_line None ≡ codes "-\n" }
     ensures no_column { column_text [] ≡ [] }
     ensures column { column_text (Some 0 ∷ None ∷ Some 12 ∷ []) ≡ codes "0\n-\n12\n" }
+{}
+
+/// The lines of a forest, for a path with the weights 5 and 2.
+pub fn forests()
+    ensures no_edge { forest_text [] ≡ codes "total 0\n" }
+    ensures path { forest_text path_edges ≡ codes "1 2 5\n2 3 2\ntotal 7\n" }
+    ensures chosen { forest_text (edges_at path_edges (1 ∷ [])) ≡ codes "2 3 2\ntotal 2\n" }
+{}
+
+/// The lines of a summary.
+pub fn summaries()
+    ensures { summary_text (record {
+      vertices = 4;
+      edges = 3;
+      hops = record { count = 3; far = 2; sum = 3 };
+      weights = record { count = 3; far = 7; sum = 12 };
+      components = 2;
+      forest = 2;
+      total = 10;
+      clashes = 0;
+    }) ≡ codes "vertices 4\nedges 3\nhops 3 2 3\nweights 3 7 12\ncomponents 2\nforest 2 10\nclashes 0\n" }
 {}
 
 /// The line that tells each fault.

@@ -2,8 +2,10 @@
 ghost use Rattle.std.specs.Prelude.{◌≤◌, length};
 ghost use Rattle.pg_base.specs.declared.TheConstants.{MAX_VERTICES};
 
-use crate::{Column, Fault, print_column, print_fault};
-use pg_base::Vertex;
+use crate::{
+    Column, Fault, Summary, Tally, print_column, print_fault, print_forest, print_summary,
+};
+use pg_base::{Edge, EdgeList, Vertex};
 use pg_metis::{Kind, PartsKind};
 use pg_outside::MemorySink;
 use std::alloc::Global;
@@ -122,6 +124,113 @@ fn each_fault_has_its_line(rt: HostRuntime) -> Result<(), Fail> {
         let written = print_fault(&mut out, &fault);
         assert!(rt; written.is_ok());
         assert_eq!(rt; out.text(), line.as_bytes());
+    }
+    Ok(())
+}
+
+/// 1 --5-- 2 --2-- 3     4
+fn path(alloc: Global) -> Result<EdgeList, Fail> {
+    let edges = vec![in alloc;
+        Edge { u: 1, v: 2, w: 5 },
+        Edge {
+            u: 2,
+            v: 3,
+            w: u32::MAX
+        },
+    ]?;
+    Ok(EdgeList::new(4, edges))
+}
+
+#[test]
+fn each_edge_is_a_line_and_the_total_is_the_last(rt: HostRuntime) -> Result<(), Fail> {
+    let alloc = rt.alloc();
+    let mut out = MemorySink::new(alloc, 64, Vec::new(alloc))?;
+    let written = print_forest(&mut out, &path(alloc)?, &[0, 1]);
+    assert!(rt; written.is_ok());
+    assert_eq!(rt;
+        out.text(),
+        b"1 2 5\n2 3 4294967295\ntotal 4294967300\n".as_slice()
+    );
+    Ok(())
+}
+
+#[test]
+fn edges_are_told_by_their_indices(rt: HostRuntime) -> Result<(), Fail> {
+    let alloc = rt.alloc();
+    let mut out = MemorySink::new(alloc, 64, Vec::new(alloc))?;
+    let written = print_forest(&mut out, &path(alloc)?, &[0]);
+    assert!(rt; written.is_ok());
+    assert_eq!(rt; out.text(), b"1 2 5\ntotal 5\n".as_slice());
+    let mut out = MemorySink::new(alloc, 64, Vec::new(alloc))?;
+    let written = print_forest(&mut out, &path(alloc)?, &[]);
+    assert!(rt; written.is_ok());
+    assert_eq!(rt; out.text(), b"total 0\n".as_slice());
+    Ok(())
+}
+
+#[test]
+fn each_line_of_a_forest_is_one_write(rt: HostRuntime) -> Result<(), Fail> {
+    let alloc = rt.alloc();
+    for (call, bytes, text) in [
+        (1, 1, "1"),
+        (2, 0, "1 2 5\n"),
+        (3, 6, "1 2 5\n2 3 4294967295\ntotal "),
+    ] {
+        let mut out = MemorySink::new(alloc, 64, vec![in alloc; (call, bytes)]?)?;
+        let written = print_forest(&mut out, &path(alloc)?, &[0, 1]);
+        assert!(rt; written.is_err());
+        assert_eq!(rt; out.text(), text.as_bytes());
+    }
+    Ok(())
+}
+
+/// Of the grid of two columns and two rows with the seed 7.
+const GRID: Summary = Summary {
+    vertices: 4,
+    edges: 4,
+    hops: Tally {
+        count: 4,
+        far: 2,
+        sum: 4,
+    },
+    weights: Tally {
+        count: 4,
+        far: 3_805,
+        sum: 7_477,
+    },
+    components: 1,
+    forest: 3,
+    total: 5_031,
+    clashes: 0,
+};
+
+#[test]
+fn a_summary_is_seven_lines(rt: HostRuntime) -> Result<(), Fail> {
+    let alloc = rt.alloc();
+    let mut out = MemorySink::new(alloc, 256, Vec::new(alloc))?;
+    let written = print_summary(&mut out, &GRID);
+    assert!(rt; written.is_ok());
+    let text =
+        "vertices 4\nedges 4\nhops 4 2 4\nweights 4 3805 7477\ncomponents 1\nforest 3 5031\nclashes 0\n";
+    assert_eq!(rt; out.text(), text.as_bytes());
+    Ok(())
+}
+
+#[test]
+fn each_line_of_a_summary_is_one_write(rt: HostRuntime) -> Result<(), Fail> {
+    let alloc = rt.alloc();
+    for (call, text) in [
+        (1, ""),
+        (3, "vertices 4\nedges 4\n"),
+        (
+            7,
+            "vertices 4\nedges 4\nhops 4 2 4\nweights 4 3805 7477\ncomponents 1\nforest 3 5031\n",
+        ),
+    ] {
+        let mut out = MemorySink::new(alloc, 256, vec![in alloc; (call, 0)]?)?;
+        let written = print_summary(&mut out, &GRID);
+        assert!(rt; written.is_err());
+        assert_eq!(rt; out.text(), text.as_bytes());
     }
     Ok(())
 }

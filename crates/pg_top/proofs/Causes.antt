@@ -11,14 +11,15 @@ use Rattle.pg_metis.specs.File.{FileOf}
 use Rattle.pg_metis.specs.Parts.{FirstPartsFault, parts_fault_of}
 use Rattle.pg_metis.specs.declared.faults.Kind.{Kind}
 use Rattle.pg_metis.specs.declared.parts_faults.PartsKind.{PartsKind}
-use Rattle.pg_print.specs.Columns.{column_text}
 use Rattle.pg_print.specs.declared.faults.Fault.{Fault}
 use Rattle.pg_print.specs.declared.faults.Fault.TheVariants.{Words, Graph as GraphFault, Parts, Source, Read, Write, Memory}
 use Rattle.pg_print.specs.FaultLines.{status_of}
 use Rattle.pg_words.specs.Plan.{Meaning, plan_of}
 use Rattle.pg_top.specs.Files.{FileHolds, HasGraph, HasInput, HasOwners, IsFileOf, IsMissingParts, MissesFile, PartsHold}
 use Rattle.pg_top.specs.Run.{IsOutside, IsOrNoMemory, HasPlan, HasText, RunFails, Tells, TellsInput, TellsPartsFault, Traces}
-use Rattle.pg_top.specs.Text.{IsTextOf, IsInside}
+use Rattle.pg_words.specs.declared.plans.Algorithm.{Algorithm}
+use Rattle.pg_words.specs.declared.plans.Algorithm.TheVariants.{Bfs, Sssp, Components, Forest, Colour, Grid}
+use Rattle.pg_top.specs.Text.{IsAnswerText, IsTextOf, IsInside}
 use Rattle.pg_top.specs.declared.works.Work.{Work}
 use Rattle.pg_top.specs.Work.{HasWork, IsSolved, IsWork}
 use Rattle.pg_top.proofs.InputLemmas.{FileHolds-at, FileOf-n, HasGraph-at, HasInput-weaker, not_both, not_missing, odd_has_no_owners, owners_at, owners_not_missing, owners_not_odd}
@@ -29,24 +30,33 @@ not_outside plan n m same inside outside = neither (inside.first outside.sourced
   neither first last (inl zero) = omega arith
   neither first last (inr above) = omega arith
 
--- What was solved for the plan's files is their text and their work.
-module _ (spoken : List (List ℕ)) (files : Option (List NamedBytes)) (answers : List (Option ℕ)) (work : Work) where
-  abbrev SolvedFor : Meaning → Type 0
-  SolvedFor plan = HasInput plan files (λ g owners. IsSolved plan g owners answers work)
+-- Where an algorithm with a source has a text, the source is inside.
+inside_of_text : (a : Algorithm) (ranks source : ℕ) (g : Graph) (text : List ℕ) → IsAnswerText a ranks source g text → IsInside a source g.n
+inside_of_text Bfs ranks source g text is = is.inside
+inside_of_text Sssp ranks source g text is = is.inside
+inside_of_text Components ranks source g text is = is.inside
+inside_of_text Forest ranks source g text is = record { first = λ e. absurd (cc e); last = λ e. absurd (cc e) }
+inside_of_text Colour ranks source g text is = record { first = λ e. absurd (cc e); last = λ e. absurd (cc e) }
+inside_of_text Grid ranks source g text is = is.inside
 
-  pub text_from_solved : (P : List ℕ → Type 0) → HasPlan spoken SolvedFor → P (column_text answers) → HasPlan spoken (λ plan. HasText plan files P)
+-- What was solved for the plan's files is their text and their work.
+module _ (spoken : List (List ℕ)) (files : Option (List NamedBytes)) (text : List ℕ) (work : Work) where
+  abbrev SolvedFor : Meaning → Type 0
+  SolvedFor plan = HasInput plan files (λ g owners. IsSolved plan g owners text work)
+
+  pub text_from_solved : (P : List ℕ → Type 0) → HasPlan spoken SolvedFor → P text → HasPlan spoken (λ plan. HasText plan files P)
   text_from_solved P (plan, planned, solved) done = (
     plan,
     planned,
-    HasInput-weaker plan files _ _ (λ g owners s. (column_text answers, record { inside = s.inside; answers = answers; right = s.right; spelled = refl }, done)) solved,
+    HasInput-weaker plan files _ _ (λ g owners s. (text, s.right, done)) solved,
   )
 
-  pub work_from_solved : (P : List ℕ → Type 0) (other : Work) → work ≡ other → HasPlan spoken SolvedFor → P (column_text answers) → HasPlan spoken (λ plan. HasWork plan files other P)
+  pub work_from_solved : (P : List ℕ → Type 0) (other : Work) → work ≡ other → HasPlan spoken SolvedFor → P text → HasPlan spoken (λ plan. HasWork plan files other P)
   work_from_solved P other same (plan, planned, solved) done = (
     plan,
     planned,
     HasInput-weaker plan files _ _ (λ g owners s.
-        (column_text answers, record { inside = s.inside; answers = answers; right = s.right; spelled = refl }, subst (IsWork plan g owners (column_text answers)) same s.carried, done)) solved,
+        (text, s.right, subst (IsWork plan g owners text) same s.carried, done)) solved,
   )
 
 -- A text that was written is that of a file without a fault.
@@ -159,7 +169,7 @@ module _ (spoken : List (List ℕ)) (files : Option (List NamedBytes)) (t : Trac
     outside out none Write (other, planned, (rose, h)) =
         let found = at_owners spoken files plan tells.text tells.tells g tells.file (λ m k owners. (written : List ℕ) × IsTextOf m k written × AppendsFront t.text_before t.text_after written) (other, planned, h) in
         let text = owners_at plan.parts files g.n plan.ranks ((written : List ℕ) × IsTextOf plan found.0 written × AppendsFront t.text_before t.text_after written) tells.owners found.2 in
-        absurd (not_outside plan found.0.n g.n found.1 text.1.inside out)
+        absurd (not_outside plan found.0.n g.n found.1 (inside_of_text plan.algorithm plan.ranks plan.source found.0 text.0 text.1) out)
     outside out none Memory h = inr refl
 
     pub complete : IsInside plan.algorithm plan.source g.n → (Rose t.inputs_before t.inputs_after → ⊥) → (Rose t.out_before t.out_after → ⊥) → (fault : Fault) → RunFails spoken files t fault → IsOrNoMemory Ok (status_of fault)

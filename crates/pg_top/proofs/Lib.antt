@@ -1,4 +1,6 @@
+pub mod OneText
 pub mod SearchTexts
+pub mod TreeTexts
 pub mod Steps
 pub mod RunLemmas
 pub mod BestLemmas
@@ -8,3 +10,5 @@ pub mod AnswerLemmas
 pub mod RightLemmas
 pub mod InputLemmas
 pub mod Causes
+pub mod EdgesBelow
+pub mod GrownLemmas

@@ -34,11 +34,11 @@ use Rattle.pg_top.specs.Text.{AreLeastWeights, AreLowest, IsRootOf}
 use Rattle.pg_top.specs.Work.{IsCarried, IsRelaxedBy, SpellsAnswers}
 use Rattle.pg_top.proofs.BestLemmas.{answered, arcs_fit, lanes_are_relaxed}
 
-distribution_n : (owners : Option (List ℕ)) (n ranks : ℕ) (s : Sharing) → IsDistribution owners n ranks s → s.n ≡ n
+pub distribution_n : (owners : Option (List ℕ)) (n ranks : ℕ) (s : Sharing) → IsDistribution owners n ranks s → s.n ≡ n
 distribution_n None n ranks s d = d.vertices
 distribution_n (Some list) n ranks s d = d.vertices
 
-distribution_ranks : (owners : Option (List ℕ)) (n ranks : ℕ) (s : Sharing) → IsDistribution owners n ranks s → s.ranks ≡ ranks
+pub distribution_ranks : (owners : Option (List ℕ)) (n ranks : ℕ) (s : Sharing) → IsDistribution owners n ranks s → s.ranks ≡ ranks
 distribution_ranks None n ranks s d = d.group
 distribution_ranks (Some list) n ranks s d = d.group
 

@@ -1,57 +1,18 @@
--- The least numbers of arcs on a path, and that a graph and a source have one text.
-use Rattle.std.proofs.Common.{◌≡◌, ℕ, zero, suc, ◌+◌, ◌-◌, ◌<◌, ◌≤◌, Option, Some, None, List, [], ◌∷◌, length, get_or, refl, sym, ◌∙◌, ap, arith, All}
+-- The least numbers of arcs on a path, and other columns on one with weights.
+use Rattle.std.proofs.Common.{◌≡◌, ℕ, zero, suc, ◌+◌, ◌-◌, ◌<◌, ◌≤◌, Option, Some, None, List, [], ◌∷◌, get_or, refl, ap, arith, All}
 use Rattle.std.specs.Prelude.{codes}
 use Rattle.std.specs.Fmt.{digits}
 use Rattle.std.proofs.lemmas.List.Elements.{All-from_recursion}
-use Rattle.pg_base.specs.Graph.{Graph, Arc, arcs_of}
+use Rattle.pg_base.specs.Graph.{Arc, arcs_of}
 use Rattle.pg_base.specs.Examples.{arc}
-use Rattle.pg_base.specs.Walk.{IsWalk, Joins, weight_of, LeastArcs, LeastWeight}
+use Rattle.pg_base.specs.Walk.{IsWalk, Joins, LeastArcs, LeastWeight}
 use Rattle.pg_base.specs.Examples.{graph, path_edges}
-use Rattle.pg_base.proofs.WalkLemmas.{apart_by_limit, least_arcs_by, least_is_one, least_weight_by, lowest_by, lowest_is_one}
-use Rattle.pg_words.specs.declared.plans.Algorithm.{Algorithm}
-use Rattle.pg_words.specs.declared.plans.Algorithm.TheVariants.{Bfs, Sssp, Components, Forest, Colour, Grid}
-use Rattle.pg_top.specs.Text.{AreAnswersOf, IsAnswerText, IsRootOf}
-use Rattle.pg_print.specs.Columns.{column_text}
-use Rattle.pg_top.specs.TextLaws.{TextIsOne}
+use Rattle.pg_base.proofs.WalkLemmas.{apart_by_limit, least_arcs_by, least_weight_by, lowest_by}
+use Rattle.pg_words.specs.declared.plans.Algorithm.TheVariants.{Bfs, Sssp, Components}
+use Rattle.pg_top.specs.Text.{IsAnswerText, IsRootOf}
+use Rattle.pg_top.proofs.OneText.{text_is_one}
 use Rattle.pg_metis.specs.Examples.{path}
 use Rattle.pg_top.specs.Examples.{path_and_one}
-
-same_lists : (xs ys : List (Option ℕ)) → length xs ≡ length ys → ((i : ℕ) → i < length xs → get_or xs i None ≡ get_or ys i None) → xs ≡ ys
-same_lists [] [] count each = refl
-same_lists [] (y ∷ ys) count each = absurd (omega arith)
-same_lists (x ∷ xs) [] count each = absurd (omega arith)
-same_lists (x ∷ xs) (y ∷ ys) count each =
-    let first : x ≡ y = each 0 (omega arith) in
-    let rest : xs ≡ ys = same_lists xs ys (omega arith) (λ i below. each (suc i) (omega arith)) in
-    cc
-
-same_roots : (g : Graph) (v : ℕ) (x y : Option ℕ) → IsRootOf g v x → IsRootOf g v y → x ≡ y
-same_roots g v None y p q = absurd p
-same_roots g v (Some a) None p q = absurd q
-same_roots g v (Some a) (Some b) p q = ap Some (lowest_is_one (arcs_of g.edges) v a b p q)
-
-same_answers : (algorithm : Algorithm) (source : ℕ) (g : Graph) (xs ys : List (Option ℕ)) → AreAnswersOf algorithm source g xs → AreAnswersOf algorithm source g ys → xs ≡ ys
-same_answers Bfs source g xs ys p q =
-    let a = p.count in
-    let b = q.count in
-    same_lists xs ys (omega arith)
-    (λ i below. least_is_one length (arcs_of g.edges) source (i + 1) (get_or xs i None) (get_or ys i None) (p.each i (omega arith)) (q.each i (omega arith)))
-same_answers Sssp source g xs ys p q =
-    let a = p.count in
-    let b = q.count in
-    same_lists xs ys (omega arith)
-    (λ i below. least_is_one weight_of (arcs_of g.edges) source (i + 1) (get_or xs i None) (get_or ys i None) (p.each i (omega arith)) (q.each i (omega arith)))
-same_answers Components source g xs ys p q =
-    let a = p.count in
-    let b = q.count in
-    same_lists xs ys (omega arith) (λ i below. same_roots g (i + 1) (get_or xs i None) (get_or ys i None) (p.each i (omega arith)) (q.each i (omega arith)))
-same_answers Forest source g xs ys p q = absurd p
-same_answers Colour source g xs ys p q = absurd p
-same_answers Grid source g xs ys p q = absurd p
-
-pub text_is_one : TextIsOne
-text_is_one algorithm source g a b p q =
-    p.spelled ∙ (ap column_text (same_answers algorithm source g p.answers q.answers p.right q.right) ∙ sym q.spelled)
 
 -- The arcs of the path, which both graphs have.
 abbrev path_arcs : List Arc
@@ -125,21 +86,21 @@ least_alone (suc (suc zero)) below = from_1_to_3
 least_alone (suc (suc (suc zero))) below = from_1_to_4
 least_alone (suc (suc (suc (suc i)))) below = absurd (omega arith)
 
-pub text_from_1 : IsAnswerText Bfs 1 path (codes "0\n1\n2\n")
+pub text_from_1 : IsAnswerText Bfs 1 1 path (codes "0\n1\n2\n")
 unfolding digits
 text_from_1 = record { inside = record { first = λ _. omega arith; last = λ _. omega arith }; answers = distances_1; right = record { count = refl; each = least_from_1 }; spelled = refl }
 
-pub text_from_2 : IsAnswerText Bfs 2 path (codes "1\n0\n1\n")
+pub text_from_2 : IsAnswerText Bfs 1 2 path (codes "1\n0\n1\n")
 unfolding digits
 text_from_2 = record { inside = record { first = λ _. omega arith; last = λ _. omega arith }; answers = distances_2; right = record { count = refl; each = least_from_2 }; spelled = refl }
 
-pub text_alone : IsAnswerText Bfs 1 path_and_one (codes "0\n1\n2\n-\n")
+pub text_alone : IsAnswerText Bfs 1 1 path_and_one (codes "0\n1\n2\n-\n")
 unfolding digits
 text_alone = record { inside = record { first = λ _. omega arith; last = λ _. omega arith }; answers = distances_alone; right = record { count = refl; each = least_alone }; spelled = refl }
 
-pub other_text : IsAnswerText Bfs 1 path (codes "0\n1\n1\n") → ⊥
+pub other_text : IsAnswerText Bfs 1 1 path (codes "0\n1\n1\n") → ⊥
 other_text p =
-    let same : codes "0\n1\n2\n" ≡ codes "0\n1\n1\n" = text_is_one Bfs 1 path _ _ text_from_1 p in
+    let same : codes "0\n1\n2\n" ≡ codes "0\n1\n1\n" = text_is_one Bfs 1 1 1 path _ _ (λ e. absurd (cc e)) text_from_1 p in
     let fifth : ◌≡◌ {A = ℕ} 50 49 = ap (λ (text : List ℕ). get_or text 4 0) same in
     omega arith
 
@@ -174,13 +135,13 @@ least_weights (suc (suc zero)) below = least_weight_by by_weight (arcs_of path_e
 least_weights (suc (suc (suc zero))) below = path_apart
 least_weights (suc (suc (suc (suc i)))) below = absurd (omega arith)
 
-pub text_of_weights : IsAnswerText Sssp 1 (graph 4 path_edges) (codes "0\n5\n7\n-\n")
+pub text_of_weights : IsAnswerText Sssp 1 1 (graph 4 path_edges) (codes "0\n5\n7\n-\n")
 unfolding digits
 text_of_weights = record { inside = record { first = λ _. omega arith; last = λ _. omega arith }; answers = weights; right = record { count = refl; each = least_weights }; spelled = refl }
 
-pub no_text_of_arcs : IsAnswerText Sssp 1 (graph 4 path_edges) (codes "0\n1\n2\n-\n") → ⊥
+pub no_text_of_arcs : IsAnswerText Sssp 1 1 (graph 4 path_edges) (codes "0\n1\n2\n-\n") → ⊥
 no_text_of_arcs p =
-    let same : codes "0\n5\n7\n-\n" ≡ codes "0\n1\n2\n-\n" = text_is_one Sssp 1 (graph 4 path_edges) _ _ text_of_weights p in
+    let same : codes "0\n5\n7\n-\n" ≡ codes "0\n1\n2\n-\n" = text_is_one Sssp 1 1 1 (graph 4 path_edges) _ _ (λ e. absurd (cc e)) text_of_weights p in
     let third : ◌≡◌ {A = ℕ} 53 49 = ap (λ (text : List ℕ). get_or text 2 0) same in
     omega arith
 
@@ -204,6 +165,6 @@ lowest_roots (suc (suc zero)) below = lowest_by (arcs_of path_edges) 1 3 below_1
 lowest_roots (suc (suc (suc zero))) below = lowest_by (arcs_of path_edges) 4 4 below_4 (omega arith) ([], refl)
 lowest_roots (suc (suc (suc (suc i)))) below = absurd (omega arith)
 
-pub text_of_roots : IsAnswerText Components 0 (graph 4 path_edges) (codes "1\n1\n1\n4\n")
+pub text_of_roots : IsAnswerText Components 1 0 (graph 4 path_edges) (codes "1\n1\n1\n4\n")
 unfolding digits
 text_of_roots = record { inside = record { first = λ e. absurd (cc e); last = λ e. absurd (cc e) }; answers = roots; right = record { count = refl; each = lowest_roots }; spelled = refl }

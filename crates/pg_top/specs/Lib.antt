@@ -1,5 +1,7 @@
 pub mod Examples
+pub mod Answered
 pub mod Files
+pub mod Grown
 pub mod Distributions
 pub mod Run
 pub mod Text

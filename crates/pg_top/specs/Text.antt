@@ -1,13 +1,18 @@
 -- What a run prints.
--- Source: Cormen, Leiserson, Rivest and Stein, Introduction to Algorithms, chapters 21.1 (components), 22.2 and 24 (least distances).
-use Rattle.std.specs.Prelude.{◌≡◌, ℕ, ◌+◌, ◌<◌, ◌≤◌, Bool, true, false, Option, Some, None, List, length, slice_index_or}
+-- Source: Cormen, Leiserson, Rivest and Stein, Introduction to Algorithms, chapters 21.1 (components), 22.2 and 24 (least distances)
+-- and 23 (spanning trees); Diestel, Graph Theory, chapter 5 (colours).
+use Rattle.std.specs.Prelude.{◌≡◌, ℕ, ◌+◌, ◌<◌, ◌≤◌, Bool, true, false, Option, Some, None, List, length, map, slice_index_or}
+use Rattle.pg_base.specs.declared.edges.Edge.{Edge}
 use Rattle.pg_base.specs.Graph.{Graph, arcs_of}
+use Rattle.pg_base.specs.Colouring.{AreProper, IsFirstFit, colour_in}
+use Rattle.pg_base.specs.Forest.{IsForest, Spans, total_weight}
 use Rattle.pg_base.specs.Walk.{LeastWeight, IsLowest}
 use Rattle.pg_base.specs.Distances.{AreLeastArcs}
 use Rattle.pg_print.specs.Columns.{column_text}
+use Rattle.pg_print.specs.Forests.{forest_text}
 use Rattle.pg_words.specs.Plan.{Meaning}
 use Rattle.pg_words.specs.declared.plans.Algorithm.{Algorithm}
-use Rattle.pg_words.specs.declared.plans.Algorithm.TheVariants.{Bfs, Sssp, Components}
+use Rattle.pg_words.specs.declared.plans.Algorithm.TheVariants.{Bfs, Sssp, Components, Forest, Colour}
 
 -- Place v - 1 holds the least weight of a walk from s to v.
 pub record AreLeastWeights (g : Graph) (s : ℕ) (distances : List (Option ℕ)) : Type 0 where
@@ -24,7 +29,18 @@ pub record AreLowest (g : Graph) (roots : List (Option ℕ)) : Type 0 where
   pub count : length roots ≡ g.n
   pub each : (v : ℕ) → v < g.n → IsRootOf g (v + 1) (slice_index_or roots v None)
 
--- What the algorithm answers for each vertex. No words mean another algorithm yet.
+-- These are the edges of the least spanning forest, ascending. They span, and no edges that span weigh less.
+pub record IsLeastForest (g : Graph) (tree : List Edge) : Type 0 where
+  pub forest : IsForest g.edges tree
+  pub spans : Spans g.edges tree
+  pub least : (other : List Edge) → Spans g.edges other → total_weight tree ≤ total_weight other
+
+-- One colour for each vertex: they are proper, and those of first fit where one rank found them.
+pub record AreColours (ranks : ℕ) (g : Graph) (colours : List ℕ) : Type 0 where
+  pub proper : AreProper g colours
+  pub first_fit : ranks ≡ 1 → IsFirstFit g (colour_in colours)
+
+-- What the algorithm answers for each vertex, where it counts from this source.
 abbrev pub AreAnswersOf : Algorithm → ℕ → Graph → List (Option ℕ) → Type 0
 AreAnswersOf Bfs source g answers = AreLeastArcs g source answers
 AreAnswersOf Sssp source g answers = AreLeastWeights g source answers
@@ -43,12 +59,30 @@ pub record IsInside (a : Algorithm) (source n : ℕ) : Type 0 where
   pub last : has_source a ≡ true → source ≤ n
 
 -- A line for each vertex, with what the algorithm answers for it.
-pub record IsAnswerText (a : Algorithm) (source : ℕ) (g : Graph) (text : List ℕ) : Type 0 where
+pub record IsColumnText (a : Algorithm) (source : ℕ) (g : Graph) (text : List ℕ) : Type 0 where
   pub inside : IsInside a source g.n
   pub answers : List (Option ℕ)
   pub right : AreAnswersOf a source g answers
   pub spelled : text ≡ column_text answers
 
+-- The lines of the least spanning forest.
+pub record IsForestText (g : Graph) (text : List ℕ) : Type 0 where
+  pub tree : List Edge
+  pub right : IsLeastForest g tree
+  pub spelled : text ≡ forest_text tree
+
+-- A line for each vertex, with its colour.
+pub record IsColourText (ranks : ℕ) (g : Graph) (text : List ℕ) : Type 0 where
+  pub colours : List ℕ
+  pub right : AreColours ranks g colours
+  pub spelled : text ≡ column_text (map Some colours)
+
+-- The text is what the algorithm says of the graph, on so many ranks and from this source.
+abbrev pub IsAnswerText : Algorithm → ℕ → ℕ → Graph → List ℕ → Type 0
+IsAnswerText Forest ranks source g text = IsForestText g text
+IsAnswerText Colour ranks source g text = IsColourText ranks g text
+IsAnswerText a ranks source g text = IsColumnText a source g text
+
 -- The text is what the plan's algorithm says of the graph.
 abbrev pub IsTextOf : Meaning → Graph → List ℕ → Type 0
-IsTextOf plan g text = IsAnswerText plan.algorithm plan.source g text
+IsTextOf plan g text = IsAnswerText plan.algorithm plan.ranks plan.source g text

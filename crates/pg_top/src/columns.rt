@@ -1,7 +1,7 @@
-ghost use Rattle.std.specs.Prelude.{◌≤◌, length};
+ghost use Rattle.std.specs.Prelude.{◌<◌, ◌≤◌, All, length};
 ghost use Rattle.pg_base.specs.declared.TheConstants.{MAX_VERTICES};
 
-use pg_base::Vertex;
+use pg_base::{EdgeList, Vertex};
 use pg_print::Column;
 
 /// Which number of a vertex's value an algorithm answers.
@@ -11,14 +11,14 @@ pub(crate) enum Field {
     Class,
 }
 
-/// What a run answers for each vertex, that of vertex v at place v - 1.
+/// A number for each vertex or none, that of vertex v at place v - 1.
 #[derive(Drop)]
-pub(crate) struct Answers {
+pub(crate) struct Numbers {
     pub of_vertices: Vec<Option<u64>>,
     ghost few: { length of_vertices.items ≤ MAX_VERTICES },
 }
 
-impl Column for Answers {
+impl Column for Numbers {
     ghost answers = { λ a. a.of_vertices.items };
 
     fn len(&self) -> u32 {
@@ -28,4 +28,13 @@ impl Column for Answers {
     fn at(&self, v: Vertex) -> Option<u64> {
         self.of_vertices[v.0 as usize - 1]
     }
+}
+
+/// Edges of a graph, by their indices.
+#[derive(Drop)]
+pub(crate) struct Tree {
+    pub graph: EdgeList,
+    pub indices: Vec<u32>,
+    ghost within: { All (λ i. i < length graph.edges) indices.items },
+    ghost few: { length indices.items ≤ length graph.edges },
 }

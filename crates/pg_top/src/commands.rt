@@ -5,22 +5,23 @@ ghost use Rattle.pg_outside.specs.Written.{AppendsFront};
 ghost use Rattle.pg_metis.specs.Fault.{Fault as FirstFault, fault_of};
 ghost use Rattle.pg_metis.specs.File.{FileOf};
 ghost use Rattle.pg_metis.specs.Parts.{FirstPartsFault, parts_fault_of};
-ghost use Rattle.pg_print.specs.Columns.{column_text};
 ghost use Rattle.pg_print.specs.FaultLines.{fault_line, status_of};
 ghost use Rattle.pg_base.specs.Graph.{Graph};
 ghost use Rattle.pg_words.specs.Built.{IsBuilt};
 ghost use Rattle.pg_words.specs.Plan.{Meaning, meaning_of, plan_of, texts};
+ghost use Rattle.pg_top.specs.Answered.{text_in};
 ghost use Rattle.pg_top.specs.Files.{FileHolds, HasGraph, HasInput, IsReadToEnd, MissesFile, PartsHold};
 ghost use Rattle.pg_top.specs.Run.{HasPlan, HasText, InputFails, IsOrNoMemory, IsOutside, PlanFails, PrepareFails, Reports, RunFails, Tells, TellsInput, TellsPartsFault, from_plan};
 ghost use Rattle.pg_top.specs.Text.{IsInside};
 ghost use Rattle.pg_top.specs.Work.{HasWork, IsSolved};
 
+use crate::answers::print_answers;
 use crate::inputs::read_input;
 use crate::solving::{Solved, crew_of, solve};
 use crate::{Answer, Plan, PlanFault, Work, plan};
 use pg_base::{Gate, Status};
 use pg_outside::{Inputs, Sink};
-use pg_print::{Fault, print_column, print_fault};
+use pg_print::{Fault, print_fault};
 use std::alloc::Global;
 use std::sync::Wait;
 use std::thread::Threads;
@@ -56,7 +57,7 @@ fn find<W: Threads + Wait + Sync, I: Inputs, G: Gate>(
 ) -> Result<Solved, Fault>
     requires { IsBuilt (meaning_of plan.now) }
     ensures found { IfOk result (λ s. HasInput (meaning_of plan.now) (I.files inputs.old)
-        (λ g owners. IsSolved (meaning_of plan.now) g owners s.answers.of_vertices.items s.work)) }
+        (λ g owners. IsSolved (meaning_of plan.now) g owners (text_in s.answers) s.work)) }
     ensures end { OnOk result (IsReadToEnd (I.files inputs.old) (I.left inputs.new)) }
     ensures fails { IfErr result (InputFails (meaning_of plan.now) (I.files inputs.old) (I.faults inputs.old) (I.faults inputs.new)) }
     ensures later { I.faults inputs.old ≤ I.faults inputs.new }
@@ -76,7 +77,7 @@ fn prepare<W: Threads + Wait + Sync, I: Inputs, G: Gate>(
     gate: &G,
 ) -> Result<Solved, Fault>
     ensures found { IfOk result (λ s. HasPlan (texts words.now) (λ plan. HasInput plan (I.files inputs.old)
-        (λ g owners. IsSolved plan g owners s.answers.of_vertices.items s.work))) }
+        (λ g owners. IsSolved plan g owners (text_in s.answers) s.work))) }
     ensures end { OnOk result (IsReadToEnd (I.files inputs.old) (I.left inputs.new)) }
     ensures fails { IfErr result (PrepareFails (texts words.now) (I.files inputs.old) (I.faults inputs.old) (I.faults inputs.new)) }
     ensures unread { plan_of (texts words.now) ≡ None → inputs.new ≡ inputs.old }
@@ -89,15 +90,15 @@ fn prepare<W: Threads + Wait + Sync, I: Inputs, G: Gate>(
 
 /// Writes what was found to `out`.
 fn write<S: Sink>(out: &mut S, solved: Solved) -> (Result<(), Fault>, Work)
-    ensures printed { OnOk result.0 (Appends (S.text out.old) (S.text out.new) (column_text solved.answers.of_vertices.items)) }
-    ensures front { OnErr result.0 (AppendsFront (S.text out.old) (S.text out.new) (column_text solved.answers.of_vertices.items)) }
+    ensures printed { OnOk result.0 (Appends (S.text out.old) (S.text out.new) (text_in solved.answers)) }
+    ensures front { OnErr result.0 (AppendsFront (S.text out.old) (S.text out.new) (text_in solved.answers)) }
     ensures cause { OnErr result.0 (Rose (S.faults out.old) (S.faults out.new)) }
     ensures fault { IfErr result.0 (λ fault. fault ≡ Fault.Write) }
     ensures work { result.1 ≡ solved.work }
     ensures later { S.faults out.old ≤ S.faults out.new }
 {
     let Solved { answers, work } = solved;
-    let written = match print_column(out, &answers) {
+    let written = match print_answers(out, &answers) {
         Ok(()) => Ok(()),
         Err(_) => Err(Fault::Write),
     };
@@ -144,10 +145,11 @@ fn run<W: Threads + Wait + Sync, I: Inputs, S: Sink, G: Gate>(
 /// Runs the program: the words after its name, a source of files, standard output and standard error.
 ///
 /// With status `Ok`, `out` grew by exactly the text of the words' plan for the graph of which the plan's file is
-/// one, a line for each vertex from 1 to n: for `bfs` the least number of arcs of a walk from the source, for
+/// one. This is a line for each vertex from 1 to n: for `bfs` the least number of arcs of a walk from the source, for
 /// `sssp` the least weight of one, `-` where no walk leads there, and for `components` the least vertex that a
-/// walk joins to it. The text is the same for every number of ranks and threads, every capacity of lanes and every
-/// partition file. With every other status one line that tells the fault was written to `errs`, whose own faults change
+/// walk joins to it. For `forest` it is a line `u v w` for each edge of the least spanning forest, ascending, ties in
+/// weight going by (u, v), and then `total T` with the sum of the weights; no edges that span weigh less. The text is
+/// the same for every number of ranks and threads, every capacity of lanes and every partition file. With every other status one line that tells the fault was written to `errs`, whose own faults change
 /// nothing.
 ///
 /// The first fault that is met is answered, in this order: the words (`BadWords`), beginning and reading the
@@ -156,8 +158,8 @@ fn run<W: Threads + Wait + Sync, I: Inputs, S: Sink, G: Gate>(
 /// before the first write to `out`. Nothing is written to `out` with any status but `Ok` and `WriteFault`. Where the
 /// words have no plan no name is begun and nothing is read.
 ///
-/// With `Ok` and `WriteFault` the final programs and the settled lanes of this very run are handed back, which hold the
-/// numbers of the text.
+/// With `Ok` and `WriteFault` the final programs and the settled lanes of this very run are handed back, which hold what
+/// the text spells.
 pub fn command<W: Threads + Wait + Sync, I: Inputs, S: Sink, E: Sink, G: Gate>(
     token: &W,
     alloc: Global,

@@ -2,15 +2,18 @@
 #![tactic(auto)]
 
 mod agendas;
+mod answers;
 mod columns;
 mod commands;
 mod crews;
+mod forests;
 mod inputs;
 pub mod laws;
 mod relaxing;
 mod solving;
 #[cfg(test)]
 mod tests;
+mod weights;
 mod works;
 
 pub use commands::command;

@@ -7,7 +7,7 @@ ghost use Rattle.pg_relax.specs.Shown.{IsNewRelax, label_in, part_in, state_of};
 ghost use Rattle.pg_top.specs.Relaxed.{AreAnswers, AreInOrder, HavePlaces, IsRelaxation, IsRunOver, field_in};
 
 use crate::agendas::Agendas;
-use crate::columns::{Answers, Field};
+use crate::columns::{Field, Numbers};
 use crate::crews::Crew;
 use pg_adj::{Part, split};
 use pg_agenda::Agenda;
@@ -105,7 +105,7 @@ pub(crate) fn answers<L: Label, A: Agenda, D: Distribution>(
     programs: &[Relax<L, A>],
     dist: &D,
     field: Field,
-) -> Result<Answers, OutOfMemory>
+) -> Result<Numbers, OutOfMemory>
     requires ranks { length programs.now ≡ (D.sharing dist.now).ranks }
     requires places { HavePlaces (D.sharing dist.now) programs.now }
     ensures { IfOk result (λ answers. AreAnswers field (D.sharing dist.now) programs.now answers.of_vertices.items) }
@@ -119,7 +119,7 @@ pub(crate) fn answers<L: Label, A: Agenda, D: Distribution>(
         let program = &programs[dist.owner(v).0 as usize];
         of_vertices.push_reserved(number(program.value(dist.local(v)), field));
     }
-    Ok(Answers { of_vertices })
+    Ok(Numbers { of_vertices })
 }
 
 /// One number of a value, if there is one.

@@ -4,20 +4,22 @@ ghost use Rattle.std.specs.Option.{ForSome, option_map};
 ghost use Rattle.pg_agenda.specs.BucketPhases.{takes_by};
 ghost use Rattle.pg_agenda.specs.Shares.{takes_all};
 ghost use Rattle.pg_dist.specs.Sharing.{IsSharing};
-ghost use Rattle.pg_print.specs.Columns.{column_text};
 ghost use Rattle.pg_words.specs.Plan.{meaning_of};
 ghost use Rattle.pg_words.specs.Built.{IsBuilt};
 ghost use Rattle.pg_top.specs.Relaxed.{AreAnswers, IsRelaxation};
-ghost use Rattle.pg_base.specs.Graph.{IsGraph};
 ghost use Rattle.pg_base.specs.Distances.{AreLeastArcs};
-ghost use Rattle.pg_top.specs.Text.{AreAnswersOf, AreLeastWeights, AreLowest};
+ghost use Rattle.pg_top.specs.Answered.{text_in};
+ghost use Rattle.pg_top.specs.Text.{AreLeastWeights, AreLowest, IsInside, IsTextOf};
 ghost use Rattle.pg_top.specs.Work.{IsCarried, IsRelaxedBy, IsWork};
 
 use crate::agendas::{Agendas, ByBucket, ByLevel};
-use crate::columns::{Answers, Field};
+use crate::answers::Answers;
+use crate::columns::{Field, Numbers};
 use crate::crews::Crew;
+use crate::forests::least_forest;
 use crate::inputs::Input;
 use crate::relaxing::{answers, relax};
+use crate::weights::heaviest;
 use crate::{Algorithm, Plan, Work};
 use pg_agenda::{Agenda, Buckets, Levels};
 use pg_base::{EdgeList, Gate, OutOfMemory, Ranks};
@@ -39,7 +41,7 @@ pub(crate) struct Solved {
 /// The answers of a relaxation, and the programs and lanes that ended with them.
 #[derive(Drop)]
 struct Relaxed<L: Label + Send, A: Agenda + Send> {
-    answers: Answers,
+    answers: Numbers,
     finished: Finished<Relax<L, A>>,
 }
 
@@ -229,43 +231,40 @@ pub(crate) fn solve<W: Threads + Wait + Sync, G: Gate>(
     requires capacity { crew.now.capacity ≡ plan.now.capacity }
     requires each { ForSome input.owners (λ owners. vec_len owners ≡ input.graph.n) }
     requires are_ranks { ForSome input.owners (λ owners. All (λ owner. owner < crew.now.ranks) owners.items) }
-    ensures right { IfOk result (λ s. AreAnswersOf plan.now.algorithm plan.now.source input.graph s.answers.of_vertices.items) }
-    ensures work { IfOk result (λ s. IsWork (meaning_of plan.now) input.graph (option_map (λ owners. owners.items) input.owners) (column_text s.answers.of_vertices.items) s.work) }
+    requires inside { IsInside plan.now.algorithm plan.now.source input.graph.n }
+    ensures right { IfOk result (λ s. IsTextOf (meaning_of plan.now) input.graph (text_in s.answers)) }
+    ensures work { IfOk result (λ s. IsWork (meaning_of plan.now) input.graph (option_map (λ owners. owners.items) input.owners) (text_in s.answers) s.work) }
 {
     match plan.algorithm {
         Algorithm::Bfs => {
             let relaxed = least_arcs(token, alloc, input, plan.source, crew, gate)?;
             Ok(Solved {
-                answers: relaxed.answers,
+                answers: Answers::Column(relaxed.answers),
                 work: Work::Hops(relaxed.finished),
             })
         }
         Algorithm::Sssp => {
             let relaxed = least_weights(token, alloc, input, plan.source, plan.delta, crew, gate)?;
             Ok(Solved {
-                answers: relaxed.answers,
+                answers: Answers::Column(relaxed.answers),
                 work: Work::Weights(relaxed.finished),
             })
         }
         Algorithm::Components => {
             let relaxed = lowest(token, alloc, input, crew, gate)?;
             Ok(Solved {
-                answers: relaxed.answers,
+                answers: Answers::Column(relaxed.answers),
                 work: Work::Roots(relaxed.finished),
             })
         }
-        Algorithm::Forest | Algorithm::Colour | Algorithm::Grid => unreachable!(),
+        Algorithm::Forest => {
+            let grown = least_forest(token, alloc, input, crew, gate)?;
+            Ok(Solved {
+                answers: Answers::Forest(grown.tree),
+                work: Work::Forest(grown.finished),
+            })
+        }
+        Algorithm::Colour => Err(OutOfMemory),
+        Algorithm::Grid => unreachable!(),
     }
-}
-
-/// The greatest weight of an edge, 0 where there is none.
-fn heaviest(graph: &EdgeList) -> u32
-    ensures graph { IsGraph graph.now }
-    ensures most { All (λ e. e.w ≤ result) graph.now.edges }
-{
-    let mut most = 0;
-    for edge in graph.edges() {
-        most = most.max(edge.w);
-    }
-    most
 }

@@ -248,7 +248,9 @@ fn words_that_are_no_command_line_are_refused(rt: HostRuntime) -> Result<(), Fai
         "components B --source 1 ",
         "sssp B --source 1 --delta 0 ",
         "bfs B --source 1 --threads 0 ",
-        "forest B ",
+        "forest B --source 1 ",
+        "colour B --delta 4 ",
+        "grid --width 2 --height 2 --seed 7 ",
         "--help ",
     ] {
         let words = words_of(alloc, line)?;
@@ -309,7 +311,8 @@ fn no_name_is_begun_but_that_of_the_plan(rt: HostRuntime) -> Result<(), Fail> {
         ("bfs B --source 1 --ranks 2 ", 1),
         ("bfs B --source 1 --parts B ", 2),
         ("components B ", 1),
-        ("forest B ", 0),
+        ("forest B ", 1),
+        ("forest B --source 1 ", 0),
     ] {
         let file = Vec::from_slice(alloc, PATH.as_bytes())?;
         let files = vec![in alloc; (String::from_str(alloc, "B")?, file)]?;
@@ -338,6 +341,9 @@ fn no_name_is_begun_but_that_of_the_plan(rt: HostRuntime) -> Result<(), Fail> {
 /// The weights 5 and 2 in a row, and a vertex of its own, by `sssp` from 1.
 const WEIGHTS: &str = "0\n5\n7\n-\n";
 
+/// Its forest.
+const FOREST: &str = "1 2 5\n2 3 2\ntotal 7\n";
+
 /// Two edges of weight 1 undercut one of weight 10.
 const DETOUR: &str = "3 3 1\n2 10 3 1\n1 10 3 1\n1 1 2 1\n";
 
@@ -355,6 +361,8 @@ fn every_number_of_ranks_and_every_capacity_prints_the_same(rt: HostRuntime) -> 
         ("sssp B --source 1 --delta 4294967295 ", DETOUR, "0\n2\n1\n"),
         ("components B ", WEIGHTED, "1\n1\n1\n4\n"),
         ("components B ", LONG_PATH, "1\n1\n1\n1\n1\n1\n"),
+        ("forest B ", WEIGHTED, FOREST),
+        ("forest B ", DETOUR, "1 3 1\n2 3 1\ntotal 2\n"),
     ] {
         for ranks in ["1", "2", "3", "7", "32"] {
             for capacity in ["1", "1024"] {
@@ -387,6 +395,47 @@ fn a_weight_may_be_the_greatest_number_of_32_bits(rt: HostRuntime) -> Result<(),
 }
 
 #[test]
+fn a_forest_goes_by_weight_and_then_by_its_ends(rt: HostRuntime) -> Result<(), Fail> {
+    let alloc = rt.alloc();
+    for (file, text) in [
+        (
+            "3 3 001\n2 4 3 4\n1 4 3 4\n1 4 2 4\n",
+            "1 2 4\n1 3 4\ntotal 8\n",
+        ),
+        (MESH, "1 2 1\n1 3 1\n1 5 1\n2 4 1\n4 6 1\n4 7 1\ntotal 6\n"),
+        ("3 1 011 2\n7 0 2 9\n1 1 1 9\n4 4\n", "1 2 9\ntotal 9\n"),
+        ("0 0\n", "total 0\n"),
+        ("3 0\n\n\n\n", "total 0\n"),
+    ] {
+        for ranks in ["1", "2", "7"] {
+            let words = ["forest", "B", "--ranks", ranks];
+            let seen = run(&rt, &words, file, Vec::new(alloc), Vec::new(alloc))?;
+            assert_eq!(rt; seen.status, Status::Ok);
+            assert_eq!(rt; seen.out.text(), text.as_bytes(), "{file} {ranks}");
+        }
+    }
+    Ok(())
+}
+
+#[test]
+fn a_failed_write_leaves_a_front_of_a_forest(rt: HostRuntime) -> Result<(), Fail> {
+    let alloc = rt.alloc();
+    let words = ["forest", "B"];
+    for (call, bytes, text) in [
+        (1, 0, ""),
+        (2, 3, "1 2 5\n2 3"),
+        (3, 5, "1 2 5\n2 3 2\ntotal"),
+    ] {
+        let failing = vec![in alloc; (call, bytes)]?;
+        let seen = run(&rt, &words, WEIGHTED, Vec::new(alloc), failing)?;
+        assert_eq!(rt; seen.status, Status::WriteFault);
+        assert_eq!(rt; seen.out.text(), text.as_bytes());
+        assert_eq!(rt; seen.errs.text(), b"cannot write\n".as_slice());
+    }
+    Ok(())
+}
+
+#[test]
 fn components_of_no_vertex_print_nothing(rt: HostRuntime) -> Result<(), Fail> {
     let alloc = rt.alloc();
     let words = ["components", "B", "--ranks", "3"];
@@ -406,6 +455,7 @@ fn a_partition_file_says_who_owns_which_vertex(rt: HostRuntime) -> Result<(), Fa
             "components B --parts P --ranks 4 --capacity 1 ",
             "1\n1\n1\n4\n",
         ),
+        ("forest B --ranks 4 --parts P ", FOREST),
     ] {
         for parts in ["0\n1\n3\n0\n", "3\n3\n3\n3\n", "% owners\n2\n0\n2\n1\n \n"] {
             let named = [("B", WEIGHTED), ("P", parts)];

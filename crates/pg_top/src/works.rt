@@ -1,5 +1,6 @@
 use pg_agenda::{Buckets, Levels};
 use pg_base::Status;
+use pg_boruvka::Dense;
 use pg_label::{Hops, Root, Weight};
 use pg_relax::Relax;
 use pg_run::Finished;
@@ -16,6 +17,8 @@ pub enum Work {
     Weights(Finished<Relax<Weight, Buckets>>),
     /// Those of components.
     Roots(Finished<Relax<Root, Levels>>),
+    /// Those of a least spanning forest.
+    Forest(Finished<Dense>),
 }
 
 /// How a run ended, and what it leaves.

@@ -10,7 +10,7 @@ use Rattle.pg_words.specs.CommandLine.{faults_in, found_in, told}
 use Rattle.pg_words.specs.Needs.{algorithm_in, algorithm_named, fits}
 use Rattle.pg_words.specs.Plan.{IsCrewInRange, Meaning, crew_in, meaning, number_or, number_within, numbers_in, plan_as, plan_if, plan_in, plan_of, search_in, size_in, u32_max}
 use Rattle.pg_words.specs.declared.plans.Algorithm.{Algorithm}
-use Rattle.pg_words.specs.declared.plans.Algorithm.TheVariants.{Bfs, Sssp, Components}
+use Rattle.pg_words.specs.declared.plans.Algorithm.TheVariants.{Bfs, Sssp, Components, Forest, Colour}
 use Rattle.pg_words.specs.declared.plans.Crew.{Crew}
 use Rattle.pg_words.specs.declared.plans.Numbers.{Numbers}
 use Rattle.pg_words.specs.declared.plans.Search.{Search}
@@ -102,16 +102,18 @@ built_plan a rows (Some n) plan is same h =
       delta = delta;
     })
 
-named : (bfs sssp components : Bool) (a : Algorithm) → cond bfs (Some Bfs) (cond sssp (Some Sssp) (cond components (Some Components) None)) ≡ Some a → IsBuiltAlgorithm a
-named true sssp components a h = inl cc
-named false true components a h = inr (inl cc)
-named false false true a h = inr (inr cc)
-named false false false a h = cc
+named : (bfs sssp components forest colour : Bool) (a : Algorithm) → cond bfs (Some Bfs) (cond sssp (Some Sssp) (cond components (Some Components) (cond forest (Some Forest) (cond colour (Some Colour) None)))) ≡ Some a → IsBuiltAlgorithm a
+named true sssp components forest colour a h = inl cc
+named false true components forest colour a h = inr (inl cc)
+named false false true forest colour a h = inr (inr (inl cc))
+named false false false true colour a h = inr (inr (inr (inl cc)))
+named false false false false true a h = inr (inr (inr (inr cc)))
+named false false false false false a h = cc
 
 named_in : (word : Option Text) (a : Algorithm) → option_and_then algorithm_named word ≡ Some a → IsBuiltAlgorithm a
 unfolding algorithm_named
 named_in None a h = cc
-named_in (Some word) a h = named (bytes_eq word (codes "bfs")) (bytes_eq word (codes "sssp")) (bytes_eq word (codes "components")) a h
+named_in (Some word) a h = named (bytes_eq word (codes "bfs")) (bytes_eq word (codes "sssp")) (bytes_eq word (codes "components")) (bytes_eq word (codes "forest")) (bytes_eq word (codes "colour")) a h
 
 built_in : (rows : List Row) (found : Option Algorithm) (plan : Meaning) → algorithm_in rows ≡ found → option_and_then (λ (a : Algorithm). plan_as a rows) found ≡ Some plan → IsBuilt plan
 unfolding algorithm_in plan_as

@@ -3,11 +3,11 @@ use Rattle.std.specs.Prelude.{◌≡◌, ◌≤◌, ◌⊎◌, Some, List}
 use Rattle.clap.specs.Walk.{Text}
 use Rattle.pg_words.specs.Plan.{Meaning, plan_of}
 use Rattle.pg_words.specs.declared.plans.Algorithm.{Algorithm}
-use Rattle.pg_words.specs.declared.plans.Algorithm.TheVariants.{Bfs, Sssp, Components}
+use Rattle.pg_words.specs.declared.plans.Algorithm.TheVariants.{Bfs, Sssp, Components, Forest, Colour}
 
--- Breadth-first search, least weights and components.
+-- Breadth-first search, least weights, components, the least spanning forest and a colouring.
 abbrev pub IsBuiltAlgorithm : Algorithm → Type 0
-IsBuiltAlgorithm a = (a ≡ Bfs) ⊎ (a ≡ Sssp) ⊎ (a ≡ Components)
+IsBuiltAlgorithm a = (a ≡ Bfs) ⊎ (a ≡ Sssp) ⊎ (a ≡ Components) ⊎ (a ≡ Forest) ⊎ (a ≡ Colour)
 
 -- Such an algorithm on 1 to 32 ranks and 1 to 32 threads, with lanes of 1 to 1,024 messages; least weights by
 -- buckets of a width of at least 1.

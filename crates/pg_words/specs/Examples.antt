@@ -3,7 +3,7 @@ use Rattle.std.specs.Prelude.{ℕ, ◌≡◌, Some, None, [], codes, List}
 use Rattle.pg_text.specs.Text.{words}
 use Rattle.pg_words.specs.Plan.{Meaning, plan_of}
 use Rattle.pg_words.specs.declared.plans.Algorithm.{Algorithm}
-use Rattle.pg_words.specs.declared.plans.Algorithm.TheVariants.{Bfs, Sssp, Components}
+use Rattle.pg_words.specs.declared.plans.Algorithm.TheVariants.{Bfs, Sssp, Components, Forest, Colour}
 
 -- This algorithm on this file from this source, with one rank and one thread, lanes of 1,024 messages, the block
 -- distribution and no delta.
@@ -24,13 +24,16 @@ TakesWords =
     × (plan_of (words (codes "bfs A --source 7 --")) ≡ Some (plain Bfs (codes "A") 7))
     × (plan_of (words (codes "bfs - --source 0")) ≡ Some (plain Bfs (codes "-") 0))
 
--- Least weights are found by buckets of the width 32 where no word says otherwise; components have no source.
+-- Least weights are found by buckets of the width 32 where no word says otherwise; components, forests and colours
+-- have no source.
 abbrev pub TakesAlgorithms : Type 0
 TakesAlgorithms =
     (plan_of (words (codes "sssp A --source 3")) ≡ Some (weights_by 32 (codes "A") 3))
     × (plan_of (words (codes "sssp A --source 3 --delta 1")) ≡ Some (weights_by 1 (codes "A") 3))
     × (plan_of (words (codes "--delta=4294967295 sssp A --source 3")) ≡ Some (weights_by 4294967295 (codes "A") 3))
     × (plan_of (words (codes "components A")) ≡ Some (plain Components (codes "A") 0))
+    × (plan_of (words (codes "forest A")) ≡ Some (plain Forest (codes "A") 0))
+    × (plan_of (words (codes "colour A")) ≡ Some (plain Colour (codes "A") 0))
 
 -- Each algorithm takes the common options. There are as many threads as ranks where no word says otherwise, and
 -- there may be more; an empty value of `--parts` is the empty name.
@@ -43,6 +46,8 @@ TakesCommonOptions =
     × (plan_of (words (codes "bfs A --source 1 --parts=")) ≡ Some (record (plain Bfs (codes "A") 1) { parts = Some [] }))
     × (plan_of (words (codes "sssp A --source 1 --ranks 4 --threads=1")) ≡ Some (record (weights_by 32 (codes "A") 1) { ranks = 4 }))
     × (plan_of (words (codes "components A --ranks 4 --threads 2 --capacity 3 --parts P")) ≡ Some (record (plain Components (codes "A") 0) { ranks = 4; threads = 2; capacity = 3; parts = Some (codes "P") }))
+    × (plan_of (words (codes "forest A --ranks 4 --parts P")) ≡ Some (record (plain Forest (codes "A") 0) { ranks = 4; threads = 4; parts = Some (codes "P") }))
+    × (plan_of (words (codes "colour A --ranks=2 --capacity 1")) ≡ Some (record (plain Colour (codes "A") 0) { ranks = 2; threads = 2; capacity = 1 }))
 
 -- A repeated option, a flag for help, a shortened name, a negative number, a value that begins with a
 -- hyphen or is missing or stands after two hyphens, a second file, no file, and no words.
@@ -81,10 +86,13 @@ RefusesOtherOptions =
     × (plan_of (words (codes "sssp A")) ≡ None)
     × (plan_of (words (codes "components A --source 1")) ≡ None)
     × (plan_of (words (codes "components A --delta 4")) ≡ None)
+    × (plan_of (words (codes "forest A --source 1")) ≡ None)
+    × (plan_of (words (codes "forest A --delta 4")) ≡ None)
+    × (plan_of (words (codes "colour A --source 1")) ≡ None)
+    × (plan_of (words (codes "colour A --delta 4")) ≡ None)
 
--- Algorithms that aren't built.
+-- An algorithm that isn't built, and one that is none.
 abbrev pub RefusesWhatIsNotBuilt : Type 0
 RefusesWhatIsNotBuilt =
-    (plan_of (words (codes "forest A")) ≡ None)
-    × (plan_of (words (codes "colour A")) ≡ None)
+    (plan_of (words (codes "color A")) ≡ None)
     × (plan_of (words (codes "grid --width 2 --height 2 --seed 7")) ≡ None)

@@ -5,7 +5,7 @@ use Rattle.std.specs.Str.{bytes_eq}
 use Rattle.clap.specs.Walk.{Row, Text}
 use Rattle.pg_words.specs.CommandLine.{told}
 use Rattle.pg_words.specs.declared.plans.Algorithm.{Algorithm}
-use Rattle.pg_words.specs.declared.plans.Algorithm.TheVariants.{Bfs, Sssp, Components, Grid}
+use Rattle.pg_words.specs.declared.plans.Algorithm.TheVariants.{Bfs, Sssp, Components, Forest, Colour, Grid}
 use Rattle.pg_words.specs.declared.plans.Need.{Need}
 use Rattle.pg_words.specs.declared.plans.Need.TheVariants.{Required, Optional, Refused}
 
@@ -17,6 +17,8 @@ algorithm_named word =
     if bytes_eq word (codes "bfs") then Some Bfs
     else if bytes_eq word (codes "sssp") then Some Sssp
     else if bytes_eq word (codes "components") then Some Components
+    else if bytes_eq word (codes "forest") then Some Forest
+    else if bytes_eq word (codes "colour") then Some Colour
     else None
 
 -- ---- what each algorithm asks for, besides `--ranks`, `--threads` and `--capacity`, which each takes

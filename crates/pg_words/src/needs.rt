@@ -18,6 +18,8 @@ fn algorithm_named(word: &str) -> Option<Algorithm>
         "bfs" => Some(Algorithm::Bfs),
         "sssp" => Some(Algorithm::Sssp),
         "components" => Some(Algorithm::Components),
+        "forest" => Some(Algorithm::Forest),
+        "colour" => Some(Algorithm::Colour),
         _ => None,
     }
 }

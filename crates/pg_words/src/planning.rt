@@ -21,12 +21,14 @@ use std::alloc::{AllocError, Global};
 /// - `bfs FILE --source V`
 /// - `sssp FILE --source V [--delta D]`
 /// - `components FILE`
+/// - `forest FILE`
+/// - `colour FILE`
 ///
 /// each with `[--ranks P] [--threads T] [--capacity C] [--parts FILE2]`, for P ranks (1 to 32; 1 without the word)
 /// on T threads (1 to 32; as many as ranks without the word), with lanes of C messages (1 to 1,024; 1,024 without
 /// the word) and the partition file FILE2, whose name may be empty. D is 1 to 4,294,967,295 (32 without the word);
-/// `delta` is 0 in the plan of another algorithm than `sssp`, and `source` is 0 in that of `components`. Each number
-/// is one to ten decimal digits; V is worth at most 4,294,967,295. A source of 0 is no bad word.
+/// `delta` is 0 in the plan of another algorithm than `sssp`, and `source` is 0 in that of `components`, `forest` and
+/// `colour`. Each number is one to ten decimal digits; V is worth at most 4,294,967,295. A source of 0 is no bad word.
 pub fn plan(alloc: Global, words: &[String]) -> Result<Plan, PlanFault>
     ensures planned { IfOk result (λ p. plan_of (texts words.now) ≡ Some (meaning_of p)) }
     ensures bad_words { result ≡ Err PlanFault.BadWords → plan_of (texts words.now) ≡ None }

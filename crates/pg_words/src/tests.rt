@@ -113,6 +113,22 @@ fn components_have_no_source_and_no_delta(rt: HostRuntime) -> Result<(), Fail> {
 }
 
 #[test]
+fn forests_and_colours_have_no_source_and_no_delta(rt: HostRuntime) -> Result<(), Fail> {
+    let alloc = rt.alloc();
+    for (line, algorithm) in [
+        ("forest A ", Algorithm::Forest),
+        ("colour A ", Algorithm::Colour),
+    ] {
+        let plan = planned(alloc, line)??;
+        assert!(rt; plan.algorithm == algorithm && plan.file.as_str() == "A");
+        assert!(rt; plan.source == 0 && plan.delta == 0);
+        assert!(rt; plan.ranks == 1 && plan.threads == 1 && plan.capacity == 1024);
+        assert!(rt; plan.parts.is_none());
+    }
+    Ok(())
+}
+
+#[test]
 fn there_are_as_many_threads_as_ranks_where_none_are_told(rt: HostRuntime) -> Result<(), Fail> {
     let alloc = rt.alloc();
     for (line, ranks, threads) in [
@@ -143,6 +159,8 @@ fn each_algorithm_takes_a_partition_file_of_any_name(rt: HostRuntime) -> Result<
         ("sssp A --source 1 --parts=P ", "P"),
         ("components A --parts - ", "-"),
         ("components A --parts= ", ""),
+        ("forest A --parts P ", "P"),
+        ("colour A --parts=P ", "P"),
     ] {
         let plan = planned(alloc, line)??;
         assert!(rt; plan.file.as_str() == "A");
@@ -218,15 +236,11 @@ fn words_that_are_no_command_line_are_refused(rt: HostRuntime) -> Result<(), Fai
     Ok(())
 }
 
-/// Each of these is one of the design's words. A line goes from here when what it asks for is built.
+/// The grid is one of the design's words, and isn't built. `color` is no algorithm's name.
 #[test]
 fn what_is_not_built_is_refused(rt: HostRuntime) -> Result<(), Fail> {
     let alloc = rt.alloc();
-    for line in [
-        "forest A ",
-        "colour A ",
-        "grid --width 2 --height 2 --seed 7 ",
-    ] {
+    for line in ["grid --width 2 --height 2 --seed 7 ", "color A "] {
         assert!(rt; is_refused(alloc, line)?);
     }
     Ok(())
@@ -244,6 +258,12 @@ fn options_of_other_algorithms_are_refused(rt: HostRuntime) -> Result<(), Fail> 
         "components A --source 1 ",
         "components A --delta 4 ",
         "components A --seed 7 ",
+        "forest A --source 1 ",
+        "forest A --delta 4 ",
+        "forest A --seed 7 ",
+        "colour A --source 1 ",
+        "colour A --delta 4 ",
+        "colour A --width 2 ",
     ] {
         assert!(rt; is_refused(alloc, line)?);
     }

@@ -1,4 +1,4 @@
-use Rattle.pg_top.proofs.SearchTexts.{text_is_one}
+use Rattle.pg_top.proofs.OneText.{text_is_one}
 use Rattle.pg_top.proofs.laws.text_laws.Goals as goal
 
 pub returns : goal.returns

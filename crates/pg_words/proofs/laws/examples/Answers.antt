@@ -13,11 +13,11 @@ taken = (refl, refl, refl, refl, refl)
 
 algorithms : TakesAlgorithms
 unfolding clap_on_literals decimal_value number words bare_command command faults_in found_in told algorithm_in algorithm_named fits fits_files fits_task crew_in number_within numbers_in plan_as plan_in plan_of search_in size_in
-algorithms = (refl, refl, refl, refl)
+algorithms = (refl, refl, refl, refl, refl, refl)
 
 common_options : TakesCommonOptions
 unfolding clap_on_literals decimal_value number words bare_command command faults_in found_in told algorithm_in algorithm_named fits fits_files fits_task crew_in number_within numbers_in plan_as plan_in plan_of search_in size_in
-common_options = (refl, refl, refl, refl, refl, refl, refl)
+common_options = (refl, refl, refl, refl, refl, refl, refl, refl, refl)
 
 refused : RefusesWords
 unfolding clap_on_literals decimal_value number words bare_command command faults_in found_in told algorithm_in algorithm_named fits fits_files fits_task crew_in number_within numbers_in plan_as plan_in plan_of search_in size_in
@@ -29,11 +29,11 @@ numbers = (refl, refl, refl, refl, refl, refl, refl, refl, refl)
 
 other_options : RefusesOtherOptions
 unfolding clap_on_literals decimal_value number words bare_command command faults_in found_in told algorithm_in algorithm_named fits fits_files fits_task crew_in number_within numbers_in plan_as plan_in plan_of search_in size_in
-other_options = (refl, refl, refl, refl, refl, refl)
+other_options = (refl, refl, refl, refl, refl, refl, refl, refl, refl, refl)
 
 not_built : RefusesWhatIsNotBuilt
 unfolding clap_on_literals decimal_value number words bare_command command faults_in found_in told algorithm_in algorithm_named fits fits_files fits_task crew_in number_within numbers_in plan_as plan_in plan_of search_in size_in
-not_built = (refl, refl, refl)
+not_built = (refl, refl)
 
 pub returns-clause-taken : goal.returns-clause-taken
 returns-clause-taken c = taken

@@ -1,6 +1,6 @@
 use Rattle.std.proofs.Common.{◌≡◌, ◌<◌, ◌≤◌, ℕ, slice_index_or}
 use Rattle.pg_base.specs.declared.edges.Edge.{Edge}
-use Rattle.pg_top.proofs.solving.heaviest.Given as goal
+use Rattle.pg_top.proofs.weights.heaviest.Given as goal
 
 abbrev pub invariant-loop-edge : goal.invariant-loop-edge
 invariant-loop-edge l =

@@ -1,0 +1,48 @@
+//! The pass over the arcs with which a phase begins.
+ghost use Rattle.std.specs.Prelude.{◌≡◌, ℕ, ◌<◌, ◌≤◌, All, filter, length, slice_index};
+ghost use Rattle.pg_base.specs.declared.TheConstants.{MAX_EDGES};
+ghost use Rattle.pg_boruvka.specs.Arcs.{locals, is_apart, IsInTables, AreLeasts, IsOfEdge};
+
+use crate::NO_KEY;
+use crate::arcs::DenseArc;
+
+/// Keeps the arcs whose ends differ in label, in their order, and notes for each label the least key of an arc from it to
+/// another label, and that label. A label without such an arc has no key.
+pub(crate) fn gather(arcs: &mut Vec<DenseArc>, labels: &[u32], keys: &mut [u64], across: &mut [u32])
+    requires arcs { All (IsInTables (length labels.now) MAX_EDGES) arcs.old.items }
+    requires labels { All (λ l. l < length labels.now) labels.now }
+    requires keys { length keys.old ≡ length labels.now }
+    requires across { length across.old ≡ length labels.now }
+    ensures kept { locals arcs.new.items ≡ filter (is_apart (slice_index labels.now)) (locals arcs.old.items) }
+    ensures leasts { AreLeasts (locals arcs.old.items) (slice_index labels.now) keys.new across.new }
+    ensures ends { (count edges : ℕ) → All (IsInTables count edges) arcs.old.items → All (IsInTables count edges) arcs.new.items }
+    ensures edges { (count edges : ℕ) → edges ≤ MAX_EDGES → All (IsInTables count edges) arcs.old.items → All (IsOfEdge edges) keys.new }
+    ensures targets { (count : ℕ) → All (λ l. l < count) across.old → All (λ l. l < count) labels.now → All (λ l. l < count) across.new }
+    ensures same_keys { length keys.new ≡ length keys.old }
+    ensures same_across { length across.new ≡ length across.old }
+{
+    keys.fill(NO_KEY);
+    let mut kept = 0;
+    for place in 0..arcs.len() {
+        let arc = arcs[place];
+        let from = labels[arc.from as usize];
+        let to = labels[arc.to as usize];
+        if from != to {
+            arcs[kept] = arc;
+            kept += 1;
+            lower(from, to, arc.key(), keys, across);
+        }
+    }
+    arcs.truncate(kept);
+}
+
+// Notes the key of an arc from a label to another, if it is less than those before.
+fn lower(from: u32, to: u32, key: u64, keys: &mut [u64], across: &mut [u32])
+    requires key { from < length keys.old }
+    requires label { from < length across.old }
+{
+    if key < keys[from as usize] {
+        keys[from as usize] = key;
+        across[from as usize] = to;
+    }
+}
