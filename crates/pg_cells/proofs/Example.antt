@@ -7,7 +7,7 @@ use Rattle.std.specs.Prelude.{max, slice_set}
 use Rattle.pg_dist.specs.Sharing.{IsSharing}
 use Rattle.pg_adj.specs.declared.arcs.Ghost.{Ghost}
 use Rattle.pg_adj.specs.Portions.{Portion}
-use Rattle.pg_adj.specs.Division.{AreRows, IsPartOf}
+use Rattle.pg_adj.specs.Division.{AreRows, IsPartOf, Divided}
 use Rattle.pg_base.specs.Keyed.{row_of}
 use Rattle.pg_cells.specs.declared.bodies.CellBody.TheVariants.{Put as PutBody, Refresh}
 use Rattle.pg_cells.specs.declared.phases.Phase.TheVariants.{Closing, Refreshing}
@@ -27,7 +27,7 @@ both P zeroth one zero less = zeroth
 both P zeroth one (suc zero) less = one
 both P zeroth one (suc (suc r)) less = absurd (omega arith)
 
-sharing_laws : IsSharing one_each
+pub sharing_laws : IsSharing one_each
 sharing_laws = record {
   n_within = omega arith;
   owner_is_rank = λ v low high. omega arith;
@@ -42,8 +42,8 @@ sharing_laws = record {
 }
 
 -- One row of one item.
-one_row : {X : Type 0} (rows : ℕ → List X) (x : X) → x ∷ [] ≡ rows 0 → AreRows rows 1 (0 ∷ 1 ∷ []) (x ∷ [])
-one_row rows x is = record {
+one_row : {X : Type 0} (items : ℕ → List X) (x : X) → x ∷ [] ≡ items 0 → AreRows items 1 (0 ∷ 1 ∷ []) (x ∷ [])
+one_row items x is = record {
   bounded = record { each = refl; ascend = only (λ i. get_or (0 ∷ 1 ∷ []) i 0 ≤ get_or (0 ∷ 1 ∷ []) (i + 1) 0) (omega arith); within = λ i l. both (λ k. get_or (0 ∷ 1 ∷ []) k 0 ≤ 1) (omega arith) (omega arith) i (omega arith) };
   first = refl;
   last = refl;
@@ -80,8 +80,11 @@ part_is zero d less = first_is
 part_is (suc zero) d less = second_is
 part_is (suc (suc r)) d less = absurd (omega arith)
 
+pub divided : Divided one_each pair parts
+divided = record { count = refl; part = part_is }
+
 pub of_one_division : AreOfOneDivision parts
-of_one_division = (one_each, pair, sharing_laws, record { count = refl; part = part_is })
+of_one_division = (one_each, pair, sharing_laws, divided)
 
 -- One item of a list.
 one_is : {X : Type 0} (P : X → Type 0) (x : X) → P x → All P (x ∷ [])

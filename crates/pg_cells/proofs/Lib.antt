@@ -1,5 +1,5 @@
 mod MirrorRefreshes
-mod Mirror
+pub mod Mirror
 mod BackwardLists
 mod BackwardSteps
 mod BackwardRounds
@@ -15,6 +15,6 @@ mod Owing
 mod Holding
 mod RefreshLists
 mod Padded
-mod NextSends
+pub mod NextSends
 mod Synchronizes
-mod Example
+pub mod Example

@@ -5,6 +5,7 @@
 mod bodies;
 mod cells;
 mod flags;
+mod indexed;
 pub mod laws;
 mod maps;
 mod outgoing;

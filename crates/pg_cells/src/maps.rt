@@ -143,7 +143,7 @@ impl<R: Resolver> Cells<R> {
     }
 
     // A value joins the own cell of a place, if there is such a place.
-    fn join_own(&mut self, place: u32, x: u64)
+    pub(crate) fn join_own(&mut self, place: u32, x: u64)
         ensures state { state_of self.new ≡ join_own (R.join self.old.resolver) (R.start self.old.resolver) place x (state_of self.old) }
         ensures resolver { self.new.resolver ≡ self.old.resolver }
         ensures part { self.new.part ≡ self.old.part }

@@ -9,22 +9,22 @@ use Rattle.pg_proper.specs.PassLaws.{PassKeepsBounded}
 use Rattle.pg_base.proofs.Members.{contains_cases}
 use Rattle.pg_proper.proofs.PassLemmas.{colour_cases}
 
-abbrev one_if : Bool → ℕ
+abbrev pub one_if : Bool → ℕ
 one_if t = cond t 1 0
 
 -- How many numbers below c are in a set.
-present : ℕ → (ℕ → Bool) → ℕ
+pub present : ℕ → (ℕ → Bool) → ℕ
 present zero set = 0
 present (suc c) set = one_if (set c) + present c set
 
-without : (ℕ → Bool) → ℕ → ℕ → Bool
+pub without : (ℕ → Bool) → ℕ → ℕ → Bool
 without set x d = cond (d == x) false (set d)
 
-without_it : (set : ℕ → Bool) (x : ℕ) → without set x x ≡ false
+pub without_it : (set : ℕ → Bool) (x : ℕ) → without set x x ≡ false
 unfolding without
 without_it set x = ap (λ (t : Bool). cond t false (set x)) (eq-eqb x x refl)
 
-without_other : (set : ℕ → Bool) (x d : ℕ) → (d ≡ x → ⊥) → without set x d ≡ set d
+pub without_other : (set : ℕ → Bool) (x d : ℕ) → (d ≡ x → ⊥) → without set x d ≡ set d
 unfolding without
 without_other set x d apart = ap (λ (t : Bool). cond t false (set d)) (ne_eqb d x apart)
 
@@ -41,7 +41,7 @@ present_past (suc c) set x past =
     omega (arith, rest, here)
 
 -- Leaving out one number lowers the count by one at most.
-present_without : (c : ℕ) (set : ℕ → Bool) (x : ℕ) → present c set ≤ 1 + present c (without set x)
+pub present_without : (c : ℕ) (set : ℕ → Bool) (x : ℕ) → present c set ≤ 1 + present c (without set x)
 unfolding present
 present_without zero set x = omega arith
 present_without (suc c) set x = elim (cases_eq c x) [
@@ -52,7 +52,7 @@ present_without (suc c) set x = elim (cases_eq c x) [
       omega (arith, rest, here)
 ]
 
-present_none : (c : ℕ) (set : ℕ → Bool) → ((d : ℕ) → d < c → set d ≡ true → ⊥) → present c set ≡ 0
+pub present_none : (c : ℕ) (set : ℕ → Bool) → ((d : ℕ) → d < c → set d ≡ true → ⊥) → present c set ≡ 0
 unfolding present
 present_none zero set none = refl
 present_none (suc c) set none = elim (cases_Bool (set c)) [
@@ -63,7 +63,7 @@ present_none (suc c) set none = elim (cases_Bool (set c)) [
       omega (arith, here, rest)
 ]
 
-present_all : (c : ℕ) → present c (λ d. true) ≡ c
+pub present_all : (c : ℕ) → present c (λ d. true) ≡ c
 unfolding present
 present_all zero = refl
 present_all (suc c) = let rest = present_all c in omega (arith, rest)

@@ -1,0 +1,40 @@
+//! Cells by place and slot, where these are known beside the vertices: no vertex is looked up.
+ghost use Rattle.std.specs.Prelude.{◌≡◌, ◌<◌, None, length, slice_index, slice_index_or};
+ghost use Rattle.pg_cells.specs.Steps.{CellsStep, join_own};
+ghost use Rattle.pg_cells.specs.Steps.Event.{put};
+ghost use Rattle.pg_cells.specs.Shown.{state_of};
+ghost use Rattle.pg_cells.specs.declared.phases.Phase.TheVariants.{Filling};
+
+use crate::{Cells, Resolver};
+
+impl<R: Resolver> Cells<R> {
+    /// The value of the own vertex at the place.
+    pub fn at_place(&self, place: u32) -> u64
+        requires { place < length self.now.part.value.vertices }
+        ensures { result ≡ slice_index (state_of self.now).own place }
+    {
+        self.own[place as usize]
+    }
+
+    /// The value of the ghost in the slot. `None` comes exactly where the ghost was emptied and was neither put to nor
+    /// refreshed since.
+    pub fn at_slot(&self, slot: u32) -> Option<u64>
+        requires { slot < length self.now.part.value.ghosts }
+        ensures { result ≡ slice_index_or (state_of self.now).ghosts slot None }
+    {
+        self.ghosts[slot as usize]
+    }
+
+    /// Puts `x` to the own vertex at the place: the cell's value and `x` are joined.
+    pub fn put_at(&mut self, place: u32, x: u64)
+        requires below { place < length self.old.part.value.vertices }
+        requires filling { self.old.phase ≡ Filling }
+        ensures step { CellsStep (R.join self.old.resolver) (R.start self.old.resolver) (state_of self.old) (put (slice_index self.old.part.value.vertices place) x) (state_of self.new) }
+        ensures state { state_of self.new ≡ join_own (R.join self.old.resolver) (R.start self.old.resolver) place x (state_of self.old) }
+        ensures resolver { self.new.resolver ≡ self.old.resolver }
+        ensures part { self.new.part ≡ self.old.part }
+        ensures phase { self.new.phase ≡ self.old.phase }
+    {
+        self.join_own(place, x);
+    }
+}

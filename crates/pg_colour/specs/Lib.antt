@@ -1,0 +1,13 @@
+pub mod Passes
+pub mod Refreshed
+pub mod LocalColour
+pub mod Steps
+pub mod Whole
+pub mod Seen
+pub mod Rounds
+pub mod Palettes
+pub mod Beside
+pub mod Clashes
+pub mod Items
+pub mod Shown
+pub mod Example
