@@ -69,7 +69,7 @@ entry_same key key' past l same = ⊎_elim
     (λ h. cond-false (nat_lt l past) (key l) NO_KEY (le-ltb l past h) ∙ sym (cond-false (nat_lt l past) (key' l) NO_KEY (le-ltb l past h)))
     (cases_lt l past)
 
-pieces_same : (key key' : ℕ → ℕ) (past base : ℕ) → ((l : ℕ) → base ≤ l → l < past → key l ≡ key' l) → piece_from key past base ≡ piece_from key' past base
+pub pieces_same : (key key' : ℕ → ℕ) (past base : ℕ) → ((l : ℕ) → base ≤ l → l < past → key l ≡ key' l) → piece_from key past base ≡ piece_from key' past base
 pieces_same key key' past base same = λ i. Keys (record {
   base = base;
   keys = entry_same key key' past base (same base (omega arith)) i ∷ entry_same key key' past (base + 1) (same (base + 1) (omega arith)) i
@@ -192,7 +192,7 @@ handling_keeps far part handled sent s from m other keeps =
           (cases_lt s.round (3 * p));
     }
 
-none_at : (n r : ℕ) → list_at (nothing {B = Message} n) r ≡ []
+pub none_at : (n r : ℕ) → list_at (nothing {B = Message} n) r ≡ []
 none_at zero r = refl
 none_at (suc n) zero = refl
 none_at (suc n) (suc r) = none_at n r

@@ -63,7 +63,7 @@ lesser_first a arcs (Some b) is = ⊎_elim
     )))
     (cases_lt b.key a.key)
 
-least_arc_is : (arcs : List LocalArc) → IsLeastArc arcs (least_arc arcs)
+pub least_arc_is : (arcs : List LocalArc) → IsLeastArc arcs (least_arc arcs)
 least_arc_is [] = λ a c. omega (arith, c.1)
 least_arc_is (a ∷ arcs) = lesser_first a arcs (least_arc arcs) (least_arc_is arcs)
 

@@ -38,7 +38,7 @@ pub record HasHook (hooks : List Hook) (l : ℕ) : Type 0 where
   pub source : hook.source ≡ l
 
 module _ (part : Part) (label : ℕ → ℕ) (win : ℕ → ℕ) where
-  some_is : (l key : ℕ) (a : LocalArc) (h : Hook) → (a.key ≡ key) ⊎ (a.key ≢ key) → Contains (hook_by label l key (Some a)) h → (a.key ≡ key) × (hook_over label l a ≡ h)
+  pub some_is : (l key : ℕ) (a : LocalArc) (h : Hook) → (a.key ≡ key) ⊎ (a.key ≢ key) → Contains (hook_by label l key (Some a)) h → (a.key ≡ key) × (hook_over label l a ≡ h)
   some_is l key a h (inl same) c =
       let one : Contains (hook_over label l a ∷ []) h = subst (λ (x : List Hook). Contains x h) (cond-true (a.key == key) (hook_over label l a ∷ []) [] (eq-eqb a.key key same)) c in
       (same, ⊎_elim (λ is. is) (λ none. absurd (omega (arith, none.1))) (contains_cases (hook_over label l a) [] h one))
@@ -62,7 +62,7 @@ module _ (part : Part) (label : ℕ → ℕ) (win : ℕ → ℕ) where
       (λ here. by_is (suc n) (suc n) (best_arc part label (suc n)) h (omega arith) (omega arith) (best_arc_is part label (suc n)) here)
       (Contains-append_cases (hooks_up_to part label win n) (hook_by label (suc n) (win (suc n)) (best_arc part label (suc n))) h c)
 
-  hooks_have : (n l : ℕ) (b : LocalArc) → 1 ≤ l → l ≤ n → best_arc part label l ≡ Some b → b.key ≡ win l → (l ≡ n) ⊎ (l ≢ n) → Contains (hooks_up_to part label win n) (hook_over label l b)
+  pub hooks_have : (n l : ℕ) (b : LocalArc) → 1 ≤ l → l ≤ n → best_arc part label l ≡ Some b → b.key ≡ win l → (l ≡ n) ⊎ (l ≢ n) → Contains (hooks_up_to part label win n) (hook_over label l b)
   hooks_have zero l b first last best key at = absurd (omega arith)
   hooks_have (suc n) l b first last best key (inl same) =
       Contains-append_right (hooks_up_to part label win n) (hook_by label (suc n) (win (suc n)) (best_arc part label (suc n))) (hook_over label l b)

@@ -7,11 +7,11 @@ use Rattle.pg_boruvka.specs.declared.messages.Message.{Message}
 use Rattle.pg_boruvka.specs.declared.messages.Message.TheVariants.{Piece as Keys}
 use Rattle.pg_boruvka.specs.Winners.{given_key, entry, piece_from, IsPieceOf}
 
-abbrev eight : (ℕ → ℕ) → ℕ → ℕ → List ℕ
+abbrev pub eight : (ℕ → ℕ) → ℕ → ℕ → List ℕ
 eight key past base = entry key past base ∷ entry key past (base + 1) ∷ entry key past (base + 2) ∷ entry key past (base + 3)
     ∷ entry key past (base + 4) ∷ entry key past (base + 5) ∷ entry key past (base + 6) ∷ entry key past (base + 7) ∷ []
 
-eight_at : (key : ℕ → ℕ) (past base d : ℕ) → d < 8 → slice_index_or (eight key past base) d NO_KEY ≡ entry key past (base + d)
+pub eight_at : (key : ℕ → ℕ) (past base d : ℕ) → d < 8 → slice_index_or (eight key past base) d NO_KEY ≡ entry key past (base + d)
 eight_at key past base zero h = ap (entry key past) (omega arith)
 eight_at key past base (suc zero) h = refl
 eight_at key past base (suc (suc zero)) h = refl
@@ -33,14 +33,14 @@ eight_past key past base (suc (suc (suc (suc (suc (suc zero)))))) h = absurd (om
 eight_past key past base (suc (suc (suc (suc (suc (suc (suc zero))))))) h = absurd (omega arith)
 eight_past key past base (suc (suc (suc (suc (suc (suc (suc (suc d)))))))) h = refl
 
-entry_within : (key : ℕ → ℕ) (past l : ℕ) → l < past → entry key past l ≡ key l
+pub entry_within : (key : ℕ → ℕ) (past l : ℕ) → l < past → entry key past l ≡ key l
 entry_within key past l h = cond-true (nat_lt l past) (key l) NO_KEY (lt-ltb l past h)
 
-entry_past : (key : ℕ → ℕ) (past l : ℕ) → past ≤ l → entry key past l ≡ NO_KEY
+pub entry_past : (key : ℕ → ℕ) (past l : ℕ) → past ≤ l → entry key past l ≡ NO_KEY
 entry_past key past l h = cond-false (nat_lt l past) (key l) NO_KEY (le-ltb l past h)
 
 -- What an entry of a piece is: nothing, or the key of a label before the past one.
-entry_cases : (key : ℕ → ℕ) (past l : ℕ) → (entry key past l ≡ NO_KEY) ⊎ ((entry key past l ≡ key l) × (l < past))
+pub entry_cases : (key : ℕ → ℕ) (past l : ℕ) → (entry key past l ≡ NO_KEY) ⊎ ((entry key past l ≡ key l) × (l < past))
 entry_cases key past l = ⊎_elim (λ h. inr (entry_within key past l h, h)) (λ h. inl (entry_past key past l h)) (cases_lt l past)
 
 eight_cases : (key : ℕ → ℕ) (past base d : ℕ) → (slice_index_or (eight key past base) d NO_KEY ≡ NO_KEY) ⊎ ((slice_index_or (eight key past base) d NO_KEY ≡ key (base + d)) × (base + d < past))
@@ -50,10 +50,10 @@ eight_cases key past base d = ⊎_elim
     (λ h. inl (eight_past key past base d h))
     (cases_lt d 8)
 
-given_within : (l base : ℕ) (keys : List ℕ) → base ≤ l → given_key l (Keys (record { base = base; keys = keys })) ≡ slice_index_or keys (l - base) NO_KEY
+pub given_within : (l base : ℕ) (keys : List ℕ) → base ≤ l → given_key l (Keys (record { base = base; keys = keys })) ≡ slice_index_or keys (l - base) NO_KEY
 given_within l base keys h = cond-false (nat_lt l base) NO_KEY (slice_index_or keys (l - base) NO_KEY) (le-ltb l base h)
 
-given_below : (l base : ℕ) (keys : List ℕ) → l < base → given_key l (Keys (record { base = base; keys = keys })) ≡ NO_KEY
+pub given_below : (l base : ℕ) (keys : List ℕ) → l < base → given_key l (Keys (record { base = base; keys = keys })) ≡ NO_KEY
 given_below l base keys h = cond-true (nat_lt l base) NO_KEY (slice_index_or keys (l - base) NO_KEY) (lt-ltb l base h)
 
 -- The piece gives the label nothing, or its key, and then the label is one of those that the pieces are of.

@@ -217,7 +217,7 @@ items_each k [] lists = refl
 items_each k (v ∷ vs) [] = refl
 items_each k (v ∷ vs) (l ∷ ls) = λ i. round-mark k l v i ++ items_each k vs ls i
 
-items_marks : (k own : ℕ) (votes : List Vote) (lists : List (List (Body Message))) → items_in k (append_marks own votes lists) ≡ items_in k lists
+pub items_marks : (k own : ℕ) (votes : List Vote) (lists : List (List (Body Message))) → items_in k (append_marks own votes lists) ≡ items_in k lists
 items_marks k own [] lists = refl
 items_marks k own (v ∷ vs) [] = refl
 items_marks k zero (v ∷ vs) (l ∷ ls) = ap (λ (x : List Message). items_of_round k l ++ x) (items_each k vs ls)

@@ -13,6 +13,7 @@ pub mod Pointers
 pub mod Lowered
 pub mod Numbered
 pub mod Phasing
+pub mod Orderly
 pub mod Known
 pub mod Shown
 pub mod Calls

@@ -28,7 +28,9 @@ pub record IsNoted (h : Hook) (targets edges new_targets new_edges : List ℕ) :
   pub later : slice_index edges h.source ≢ NO_EDGE → noted new_targets new_edges h.source ≡ noted targets edges h.source
   pub others : (l : ℕ) → l ≢ h.source → noted new_targets new_edges l ≡ noted targets edges l
 
--- The hook of a label whose own key has won.
+-- The hook of a label whose own key has won, by that key, its label across, and the winner.
+abbrev pub own_hook_by : ℕ → ℕ → ℕ → ℕ → Option Hook
+own_hook_by l key target win = if (key == NO_KEY) || not (win == key) then None else Some (record { source = l; target = target; edge = key % MAX_EDGES })
+
 abbrev pub own_hook_at : List ℕ → List ℕ → List ℕ → ℕ → Option Hook
-own_hook_at keys across winners l = if (slice_index keys l == NO_KEY) || not (slice_index winners l == slice_index keys l) then None
-    else Some (record { source = l; target = slice_index across l; edge = slice_index keys l % MAX_EDGES })
+own_hook_at keys across winners l = own_hook_by l (slice_index keys l) (slice_index across l) (slice_index winners l)

@@ -1,9 +1,10 @@
 -- What a rank of Borůvka's method promises.
-use Rattle.std.specs.Prelude.{◌≡◌, ◌⊎◌, ℕ, ◌+◌, ◌<◌, false, Some, None, List, [], length, filter, slice_index, Contains}
+use Rattle.std.specs.Prelude.{◌≡◌, ◌⊎◌, ℕ, ◌+◌, ◌<◌, ◌≤◌, false, Some, None, List, [], length, filter, slice_index, Contains}
 use Rattle.pg_base.specs.declared.TheConstants.{MAX_VERTICES}
 use Rattle.pg_group.specs.declared.messages.Body.{Body}
 use Rattle.pg_group.specs.Ranked.{IsOther, list_at}
 use Rattle.pg_group.specs.Rounds.{items_of_round}
+use Rattle.pg_group.specs.Supersteps.{nothing}
 use Rattle.pg_adj.specs.Portions.{IsVertex}
 use Rattle.pg_boruvka.specs.declared.messages.Hook.{Hook}
 use Rattle.pg_boruvka.specs.declared.messages.Message.{Message}
@@ -59,7 +60,7 @@ pub record IsGathered (v : View) : Type 0 where
 
 -- The hooks that are noted are some of these, one for each label that has one.
 pub record AreNotedOf (hooks : List Hook) (v : View) : Type 0 where
-  pub some : (l : ℕ) (h : Hook) → noted v.known.targets v.known.edges l ≡ Some h → Contains hooks h
+  pub some : (l : ℕ) (h : Hook) → l ≤ v.part.n → noted v.known.targets v.known.edges l ≡ Some h → Contains hooks h
   pub all : (h : Hook) → Contains hooks h → noted v.known.targets v.known.edges h.source ≡ None → ⊥
   pub still : AreStill v.known.targets v.known.edges
 
@@ -75,7 +76,7 @@ pub record AreEach (v : View) : Type 0 where
 -- Nothing was called of it yet.
 pub record IsNewView (v : View) : Type 0 where
   pub gathered : IsGathered v
-  pub winners : (l : ℕ) → IsVertex v.part.n l → slice_index v.known.winners l ≡ winner v.part [] (label_of v) 0 l
+  pub winners : (l : ℕ) → IsVertex v.part.n l → slice_index v.known.winners l ≡ winner v.part (nothing v.part.ranks) (label_of v) 0 l
   pub labels : (x : ℕ) → IsVertex v.part.n x → label_of v x ≡ x
   pub unchosen : marked v.known.chosen ≡ []
   pub stage : v.stage ≡ stage.Up
@@ -89,10 +90,10 @@ pub record IsNewDense (d : Dense) : Type 0 where
   pub view : IsNewView (view_of d)
   pub idle : d.idle ≡ false
 
--- The law of Borůvka's method holds over what was handled and sent. The winners are those of the keys that were handled, the
+-- The law of Borůvka's method holds over what was handled and sent; labels move `far` steps. The winners are those of the keys that were handled, the
 -- noted hooks those that the phase has so far, and the messages that were passed are sent.
-pub record HasChosen (handled sent : List (List (Body Message))) (v : View) : Type 0 where
-  pub local : LocalDense MAX_VERTICES v.part handled sent (state_of v)
+pub record HasChosen (far : ℕ) (handled sent : List (List (Body Message))) (v : View) : Type 0 where
+  pub local : LocalDense far v.part handled sent (state_of v)
   pub gathered : IsGathered v
   pub alone : list_at handled v.part.rank ≡ []
   pub running : v.cast ≡ None → v.ended ≡ false
@@ -103,4 +104,4 @@ pub record HasChosen (handled sent : List (List (Body Message))) (v : View) : Ty
 -- The part stays.
 pub record KeepsDense (start : Dense) (handled sent : List (List (Body Message))) (d : Dense) : Type 0 where
   pub part : part_in d ≡ part_in start
-  pub chosen : HasChosen handled sent (view_of d)
+  pub chosen : HasChosen MAX_VERTICES handled sent (view_of d)

@@ -5,7 +5,7 @@ ghost use Rattle.pg_base.specs.Keyed.{row_of};
 ghost use Rattle.pg_boruvka.specs.Arcs.{local, locals, IsInTables};
 ghost use Rattle.pg_boruvka.specs.Portions.{local_of, arcs_below};
 
-use pg_adj::Part;
+use pg_adj::{Arc, Part};
 use pg_base::{MAX_EDGES, OutOfMemory};
 use std::alloc::Global;
 
@@ -20,6 +20,19 @@ pub(crate) struct DenseArc {
 }
 
 impl DenseArc {
+    // An arc of a part, which leads from this vertex.
+    fn new(from: u32, arc: Arc) -> DenseArc
+        ensures value { result ≡ record { from = from; to = arc.to.0; weight = arc.w; edge = arc.edge } }
+        ensures small { result.weight < 2 ^ 32 }
+    {
+        DenseArc {
+            from,
+            to: arc.to.0,
+            weight: arc.w,
+            edge: arc.edge,
+        }
+    }
+
     /// The edge's key. Keys compare as weights and then indices, and differ.
     pub(crate) fn key(&self) -> u64
         requires { self.now.edge < MAX_EDGES }
@@ -41,6 +54,7 @@ pub(crate) fn edge_of(key: u64) -> u32
 pub(crate) fn arcs_of(alloc: Global, part: &Part) -> Result<Vec<DenseArc>, OutOfMemory>
     ensures locals { IfOk result (λ arcs. locals arcs.items ≡ arcs_below part.now (length part.now.vertices)) }
     ensures ends { IfOk result (λ arcs. (edges : ℕ) → All (λ a. a.edge < edges) part.now.arcs → All (IsInTables (part.now.n + 1) edges) arcs.items) }
+    ensures small { IfOk result (λ arcs. All (λ a. a.weight < 2 ^ 32) arcs.items) }
 {
     let Ok(mut arcs) = Vec::with_capacity(alloc, count_arcs(part)) else {
         return Err(OutOfMemory);
@@ -66,16 +80,11 @@ fn push_arcs(part: &Part, place: u32, arcs: &mut Vec<DenseArc>) -> Result<(), Ou
     ensures locals { OnOk result (locals arcs.new.items ≡ locals arcs.old.items ++ map (local_of (slice_index part.now.vertices place)) (row_of part.now.bounds part.now.arcs place)) }
     ensures ends { OnOk result ((edges : ℕ) → All (λ a. a.edge < edges) part.now.arcs → All (IsInTables (part.now.n + 1) edges) arcs.old.items
         → All (IsInTables (part.now.n + 1) edges) arcs.new.items) }
+    ensures small { OnOk result (All (λ a. a.weight < 2 ^ 32) arcs.old.items → All (λ a. a.weight < 2 ^ 32) arcs.new.items) }
 {
     let from = part.vertex(place).0;
     for arc in part.arcs(place) {
-        let arc = DenseArc {
-            from,
-            to: arc.to.0,
-            weight: arc.w,
-            edge: arc.edge,
-        };
-        if arcs.push(arc).is_err() {
+        if arcs.push(DenseArc::new(from, *arc)).is_err() {
             return Err(OutOfMemory);
         }
     }

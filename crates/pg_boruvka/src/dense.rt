@@ -2,6 +2,8 @@
 ghost use Rattle.std.specs.Prelude.{◌≡◌, ℕ, ◌+◌, ◌<◌, ◌≤◌, true, All, IfOk, length};
 ghost use Rattle.pg_base.specs.declared.TheConstants.{MAX_EDGES, MAX_VERTICES};
 ghost use Rattle.pg_adj.specs.Portions.{IsPortion};
+ghost use Rattle.pg_boruvka.specs.Portions.{arcs_below};
+ghost use Rattle.pg_boruvka.specs.Orderly.{IsOrderly};
 
 use crate::Phases;
 use crate::arcs::arcs_of;
@@ -47,6 +49,7 @@ pub struct Dense {
     ghost is_count: { part.value.n ≡ n },
     ghost is_portion: { IsPortion part.value },
     ghost each_label: { length tables.labels.items ≡ n + 1 },
+    ghost orderly: { All (IsOrderly n) (arcs_below part.value (length part.value.vertices)) },
     ghost rests: { idle ≡ true → ranks ≤ to },
 }
 
@@ -84,7 +87,7 @@ impl Dense {
             ended: false,
             phases: Phases::None,
         };
-        let (first, past) = dense.labels_of(dense.rank);
+        let (first, past) = dense.own_labels();
         dense.tables.begin_phase(first, past);
         Ok(dense)
     }
@@ -109,5 +112,16 @@ impl Dense {
         let ranks = self.ranks.count();
         let first = first_label(self.n, ranks, rank.0);
         (first, first + count_labels(self.n, ranks, rank.0))
+    }
+
+    // The labels that this rank reduces: the first, and the one past the last.
+    pub(crate) fn own_labels(&self) -> (u32, u32)
+        ensures first { result.0 ≡ first_label (part_in self.now) (part_in self.now).rank }
+        ensures past { result.1 ≡ first_label (part_in self.now) (part_in self.now).rank + labels_of (part_in self.now) (part_in self.now).rank }
+        ensures least { 1 ≤ result.0 }
+        ensures order { result.0 ≤ result.1 }
+        ensures within { result.1 ≤ self.now.n + 1 }
+    {
+        self.labels_of(self.rank)
     }
 }

@@ -1,5 +1,5 @@
 //! The pass over the arcs with which a phase begins.
-ghost use Rattle.std.specs.Prelude.{◌≡◌, ℕ, ◌<◌, ◌≤◌, All, filter, length, slice_index};
+ghost use Rattle.std.specs.Prelude.{◌≡◌, ℕ, ◌<◌, ◌≤◌, All, filter, if◌then◌else◌, length, min, nat_lt, slice_index, slice_set};
 ghost use Rattle.pg_base.specs.declared.TheConstants.{MAX_EDGES};
 ghost use Rattle.pg_boruvka.specs.Arcs.{locals, is_apart, IsInTables, AreLeasts, IsOfEdge};
 
@@ -40,6 +40,8 @@ pub(crate) fn gather(arcs: &mut Vec<DenseArc>, labels: &[u32], keys: &mut [u64],
 fn lower(from: u32, to: u32, key: u64, keys: &mut [u64], across: &mut [u32])
     requires key { from < length keys.old }
     requires label { from < length across.old }
+    ensures key { keys.new ≡ slice_set keys.old from (min (slice_index keys.old from) key) }
+    ensures label { across.new ≡ if nat_lt key (slice_index keys.old from) then slice_set across.old from to else across.old }
 {
     if key < keys[from as usize] {
         keys[from as usize] = key;

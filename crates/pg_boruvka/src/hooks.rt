@@ -69,7 +69,7 @@ impl Hooks {
         requires edges { length self.old.edges.items ≡ length keys.now }
         requires few { length keys.now < 2 ^ 32 }
         requires unhooked { AreUnhooked self.old.targets.items self.old.edges.items }
-        ensures first { noted self.new.targets.items self.new.edges.items 0 ≡ None }
+        ensures first { 1 ≤ length keys.now → noted self.new.targets.items self.new.edges.items 0 ≡ None }
         ensures own { (l : ℕ) → 1 ≤ l → l < length keys.now → noted self.new.targets.items self.new.edges.items l ≡ own_hook_at keys.now across.now winners.now l }
         ensures still { AreStill self.new.targets.items self.new.edges.items }
         ensures all_targets { (count : ℕ) → All (λ l. l < count) across.now → All (λ l. l < count) self.old.targets.items → All (λ l. l < count) self.new.targets.items }

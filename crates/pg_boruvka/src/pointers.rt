@@ -1,14 +1,32 @@
 //! Labels at the ends of their pointers.
 //! Source: Wyllie, The Complexity of Parallel Computations (1979): pointer jumping.
-ghost use Rattle.std.specs.Prelude.{◌≡◌, ℕ, ◌^◌, ◌<◌, ◌≤◌, true, All, length, map, slice_index};
+ghost use Rattle.std.specs.Prelude.{◌≡◌, ℕ, ◌^◌, ◌<◌, ◌≤◌, false, All, length, map, slice_index};
 ghost use Rattle.pg_forest.specs.Phases.{point as pointed};
-ghost use Rattle.pg_boruvka.specs.Pointers.{AreShortened};
+ghost use Rattle.pg_base.specs.declared.TheConstants.{MAX_VERTICES};
+ghost use Rattle.pg_boruvka.specs.Pointers.{AreShortened, AreReached, AreAtEnds, AreMoved, AreTogether};
 
 // So often pointers are doubled: 1,048,576 is two to this power.
 const DOUBLINGS: u32 = 20;
 
-/// Makes the pointers of hooks: of two labels that hook to each other the lesser points to itself.
-pub(crate) fn point(targets: &mut [u32])
+/// Moves each label 1,048,576 steps along the pointers of hooks, if these come to an end. The targets change to where they lead.
+pub(crate) fn move_to_ends(labels: &mut [u32], targets: &mut [u32])
+    requires few { length targets.old < 2 ^ 32 }
+    requires targets { All (λ l. l < length targets.old) targets.old }
+    requires labels { All (λ l. l < length targets.old) labels.old }
+    ensures moved { AreMoved MAX_VERTICES targets.old labels.old labels.new }
+    ensures together { AreTogether labels.old labels.new }
+    ensures labels_within { All (λ l. l < length targets.old) labels.new }
+    ensures targets_within { All (λ l. l < length targets.old) targets.new }
+    ensures same_labels { length labels.new ≡ length labels.old }
+    ensures same_targets { length targets.new ≡ length targets.old }
+{
+    point(targets);
+    shorten(targets);
+    move_labels(labels, targets);
+}
+
+// Makes the pointers of hooks: of two labels that hook to each other the lesser points to itself.
+fn point(targets: &mut [u32])
     requires few { length targets.old < 2 ^ 32 }
     requires within { All (λ l. l < length targets.old) targets.old }
     ensures points { (l : ℕ) → l < length targets.new → slice_index targets.new l ≡ pointed (slice_index targets.old) l }
@@ -23,8 +41,8 @@ pub(crate) fn point(targets: &mut [u32])
     }
 }
 
-/// Lets each pointer lead to where it leads in 1,048,576 steps, if that is a pointer's end.
-pub(crate) fn shorten(pointers: &mut [u32])
+// Lets each pointer lead to where it leads in 1,048,576 steps, if that is a pointer's end.
+fn shorten(pointers: &mut [u32])
     requires { All (λ l. l < length pointers.old) pointers.old }
     ensures shortened { AreShortened pointers.old pointers.new }
     ensures within { All (λ l. l < length pointers.new) pointers.new }
@@ -40,6 +58,8 @@ pub(crate) fn shorten(pointers: &mut [u32])
 // Lets each pointer lead on to where the one that it leads to leads. Answers whether one changed.
 fn double(pointers: &mut [u32]) -> bool
     requires { All (λ l. l < length pointers.old) pointers.old }
+    ensures farther { AreReached pointers.old 2 pointers.new }
+    ensures at_ends { result ≡ false → AreAtEnds pointers.new }
     ensures within { All (λ l. l < length pointers.new) pointers.new }
     ensures same_count { length pointers.new ≡ length pointers.old }
 {
@@ -55,8 +75,8 @@ fn double(pointers: &mut [u32]) -> bool
     changed
 }
 
-/// Moves each label along its pointer.
-pub(crate) fn move_labels(labels: &mut [u32], pointers: &[u32])
+// Moves each label along its pointer.
+fn move_labels(labels: &mut [u32], pointers: &[u32])
     requires { All (λ l. l < length pointers.now) labels.old }
     ensures moved { labels.new ≡ map (slice_index pointers.now) labels.old }
     ensures within { (count : ℕ) → All (λ l. l < count) pointers.now → All (λ l. l < count) labels.new }

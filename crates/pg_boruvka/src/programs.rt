@@ -25,7 +25,7 @@ impl Dense {
         ensures rest { view_of self.new ≡ with_known (view_of self.old) (with_winners (known_in self.old.tables) self.new.tables.winners.items) }
         ensures same_idle { self.new.idle ≡ self.old.idle }
     {
-        let (first, past) = self.labels_of(self.rank);
+        let (first, past) = self.own_labels();
         let end = self.n + 1;
         match self.stage {
             Stage::Up => self.tables.lower(piece, first, past),
@@ -157,7 +157,7 @@ impl Program for Dense {
             }
             Stage::Hook => {
                 self.tables.end_phase();
-                let (first, past) = self.labels_of(self.rank);
+                let (first, past) = self.own_labels();
                 self.tables.begin_phase(first, past);
                 self.phases.count();
                 self.begin_round(Stage::Up)

@@ -1,5 +1,5 @@
 //! Which messages a rank sends in a round, and in which order.
-ghost use Rattle.std.specs.Prelude.{◌≡◌, ℕ, ◌+◌, ◌<◌, ◌≤◌, ◌^◌, IfNone, IfSome};
+ghost use Rattle.std.specs.Prelude.{◌≡◌, ◌⊎◌, ℕ, ◌+◌, ◌<◌, ◌≤◌, ◌^◌, IfNone, IfSome};
 ghost use Rattle.pg_base.specs.declared.TheConstants.{MAX_VERTICES};
 ghost use Rattle.pg_group.specs.Ranked.{IsOther};
 
@@ -29,7 +29,7 @@ impl Dense {
                 Some((number, Message::Piece(piece)))
             }
             Stage::Down => {
-                let (first, past) = self.labels_of(self.rank);
+                let (first, past) = self.own_labels();
                 let (number, piece) = next_piece(&tables.winners, first, past, at)?;
                 Some((number, Message::Piece(piece)))
             }
@@ -39,6 +39,19 @@ impl Dense {
                 Some((hook.source, Message::Hook(hook)))
             }
         }
+    }
+
+    // The next message of this round to the present receiver, if that is another rank.
+    fn next_here(&self) -> Option<(u32, Message)>
+        requires { self.now.to < self.now.ranks }
+        ensures next { IfSome result (λ found. IsNext (view_of self.now) self.now.to self.now.at found.0 found.1) }
+        ensures other { IfSome result (λ _. IsOther (part_in self.now).rank (part_in self.now).ranks self.now.to) }
+        ensures none { IfNone result ((self.now.to ≡ (part_in self.now).rank) ⊎ IsNoneFrom (view_of self.now) self.now.to self.now.at) }
+    {
+        if self.to == self.rank.0 {
+            return None;
+        }
+        self.next_to(RankNo(self.to), self.at)
     }
 
     // Goes on to the next message of this round.
@@ -52,12 +65,9 @@ impl Dense {
         ensures same_idle { self.new.idle ≡ self.old.idle }
     {
         while self.to < self.ranks.count() {
-            let to = RankNo(self.to);
-            if to != self.rank
-                && let Some((number, message)) = self.next_to(to, self.at)
-            {
+            if let Some((number, message)) = self.next_here() {
                 self.at = number;
-                return Some((to, message));
+                return Some((RankNo(self.to), message));
             }
             self.to += 1;
             self.at = 0;

@@ -6,12 +6,12 @@ ghost use Rattle.pg_boruvka.specs.Arcs.{IsInTables, IsOfEdge, locals, is_apart, 
 ghost use Rattle.pg_boruvka.specs.Noted.{noted, own_hook_at, AreUnhooked, AreStill, IsNoted, IsEdgeOrNone};
 ghost use Rattle.pg_boruvka.specs.Chosen.{AreMarked};
 ghost use Rattle.pg_boruvka.specs.Lowered.{AreLowered, AreBegun};
-ghost use Rattle.pg_boruvka.specs.Pointers.{AreMoved};
+ghost use Rattle.pg_boruvka.specs.Pointers.{AreMoved, AreTogether};
 
 use crate::arcs::DenseArc;
 use crate::gathering::gather;
 use crate::hooks::Hooks;
-use crate::pointers::{move_labels, point, shorten};
+use crate::pointers::move_to_ends;
 use crate::{Hook, NO_KEY, Piece, chosen, winners};
 use std::alloc::{AllocError, Global};
 
@@ -149,14 +149,13 @@ impl Tables {
     pub(crate) fn end_phase(&mut self)
         ensures marked { AreMarked self.old.hooks.edges.items self.old.chosen.items self.new.chosen.items }
         ensures same_edges { length self.new.chosen.items ≡ length self.old.chosen.items }
-        ensures moved { AreMoved self.old.hooks.targets.items self.old.labels.items self.new.labels.items }
+        ensures moved { AreMoved MAX_VERTICES self.old.hooks.targets.items self.old.labels.items self.new.labels.items }
+        ensures together { AreTogether self.old.labels.items self.new.labels.items }
         ensures same_count { length self.new.labels.items ≡ length self.old.labels.items }
         ensures same_arcs { self.new.arcs.items ≡ self.old.arcs.items }
     {
         chosen::mark(&mut self.chosen, &self.hooks.edges);
-        point(&mut self.hooks.targets);
-        shorten(&mut self.hooks.targets);
-        move_labels(&mut self.labels, &self.hooks.targets);
+        move_to_ends(&mut self.labels, &mut self.hooks.targets);
     }
 
     /// Whether no label has a winner.
