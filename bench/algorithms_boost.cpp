@@ -1,13 +1,17 @@
-// Boost.Graph's breadth-first search, Dijkstra and connected components on a METIS graph file, printed as pbgl prints
-// them: one line a vertex, one system call a line. The milliseconds of reading the file, of building the graph and of
-// running the algorithm go to standard error.
-//   algorithms_boost bfs FILE SOURCE
-//   algorithms_boost sssp FILE SOURCE
-//   algorithms_boost components FILE
+// Boost.Graph's breadth-first search, Dijkstra, connected components, least spanning forests and sequential colouring on a
+// METIS graph file, printed as pbgl prints them: one line a vertex, one system call a line; of a forest the last line alone,
+// since edges of equal weight may be chosen in more than one way. Prim's algorithm grows one tree from vertex 1, so its total
+// is that of the first vertex's component. The milliseconds of reading the file, of building the graph and of running the
+// algorithm go to standard error.
+//   algorithms_boost bfs|sssp FILE SOURCE
+//   algorithms_boost components|kruskal|prim|colour FILE
 #include <boost/graph/breadth_first_search.hpp>
 #include <boost/graph/compressed_sparse_row_graph.hpp>
 #include <boost/graph/connected_components.hpp>
 #include <boost/graph/dijkstra_shortest_paths.hpp>
+#include <boost/graph/kruskal_min_spanning_tree.hpp>
+#include <boost/graph/prim_minimum_spanning_tree.hpp>
+#include <boost/graph/sequential_vertex_coloring.hpp>
 #include <chrono>
 #include <cstdint>
 #include <cstdio>
@@ -37,7 +41,9 @@ struct Arcs {
     std::vector<Cost> costs;
 };
 
-static Arcs read_arcs(const char *name, bool with_costs) {
+enum class Directions { Both, Up };
+
+static Arcs read_arcs(const char *name, bool with_costs, Directions directions) {
     std::ifstream file(name);
     std::string line;
     std::getline(file, line);
@@ -55,6 +61,7 @@ static Arcs read_arcs(const char *name, bool with_costs) {
             std::uint32_t v = std::strtoul(begin, &end, 10);
             if (end == begin) break;
             std::uint32_t weight = weighted ? std::strtoul(end, &end, 10) : 1;
+            if (directions == Directions::Up && v <= u + 1) continue;
             arcs.ends.emplace_back(u, v - 1);
             if (with_costs) arcs.costs.push_back({weight});
         }
@@ -95,10 +102,44 @@ static Numbers components(const Graph &graph) {
     return answers;
 }
 
+// Each edge is one arc here.
+static std::uint64_t kruskal(const WeightedGraph &graph) {
+    std::vector<WeightedGraph::edge_descriptor> tree;
+    tree.reserve(num_vertices(graph));
+    boost::kruskal_minimum_spanning_tree(graph, std::back_inserter(tree),
+                                         boost::weight_map(get(&Cost::weight, graph)));
+    std::uint64_t total = 0;
+    for (auto edge : tree) total += graph[edge].weight;
+    return total;
+}
+
+static std::uint64_t prim(const WeightedGraph &graph) {
+    Numbers parents(num_vertices(graph)), nearest(num_vertices(graph));
+    auto index = get(boost::vertex_index, graph);
+    boost::prim_minimum_spanning_tree(graph, boost::make_iterator_property_map(parents.begin(), index),
+                                      boost::root_vertex(0)
+                                          .weight_map(get(&Cost::weight, graph))
+                                          .distance_map(boost::make_iterator_property_map(nearest.begin(), index)));
+    std::uint64_t total = 0;
+    for (std::size_t v = 0; v < parents.size(); v++)
+        if (parents[v] != v) total += nearest[v];
+    return total;
+}
+
+static Numbers colour(const Graph &graph) {
+    Numbers colours(num_vertices(graph));
+    boost::sequential_vertex_coloring(
+        graph, boost::make_iterator_property_map(colours.begin(), get(boost::vertex_index, graph)));
+    return colours;
+}
+
+static bool print(const std::string &text) {
+    return write(1, text.data(), text.size()) >= 0;
+}
+
 static bool print(const Numbers &answers) {
     for (std::uint64_t answer : answers) {
-        std::string text = answer == none ? "-\n" : std::to_string(answer) + "\n";
-        if (write(1, text.data(), text.size()) < 0) return false;
+        if (!print(answer == none ? "-\n" : std::to_string(answer) + "\n")) return false;
     }
     return true;
 }
@@ -109,29 +150,51 @@ static long since(std::chrono::steady_clock::time_point &mark) {
     return std::chrono::duration_cast<std::chrono::milliseconds>(mark - before).count();
 }
 
+static WeightedGraph weighted_graph(const Arcs &arcs) {
+    return WeightedGraph(boost::edges_are_sorted, arcs.ends.begin(), arcs.ends.end(), arcs.costs.begin(), arcs.n);
+}
+
+// The milliseconds of a run's phases.
+struct Phases {
+    long reading = 0, building = 0, running = 0;
+};
+
+static Phases phases;
+
+template <class G, class Algorithm>
+static auto timed(const G &graph, Algorithm algorithm, std::chrono::steady_clock::time_point &mark) {
+    phases.building = since(mark);
+    auto answer = algorithm(graph);
+    phases.running = since(mark);
+    std::fprintf(stderr, "%ld ms reading, %ld ms building, %ld ms running\n", phases.reading, phases.building,
+                 phases.running);
+    return answer;
+}
+
 int main(int count, char **words) {
     std::string algorithm = count > 1 ? words[1] : "";
     bool sourced = algorithm == "bfs" || algorithm == "sssp";
-    if (count != (sourced ? 4 : 3) || (!sourced && algorithm != "components")) {
-        std::fprintf(stderr, "algorithms_boost bfs|sssp FILE SOURCE | algorithms_boost components FILE\n");
+    bool spans = algorithm == "kruskal" || algorithm == "prim";
+    if (count != (sourced ? 4 : 3) || !(sourced || spans || algorithm == "components" || algorithm == "colour")) {
+        std::fprintf(stderr, "algorithms_boost bfs|sssp FILE SOURCE | algorithms_boost components|kruskal|prim|colour FILE\n");
         return 2;
     }
     std::uint32_t source = sourced ? std::atoi(words[3]) - 1 : 0;
     auto mark = std::chrono::steady_clock::now();
-    Arcs arcs = read_arcs(words[2], algorithm == "sssp");
-    long reading = since(mark), building, running;
-    Numbers answers;
-    if (algorithm == "sssp") {
-        WeightedGraph graph(boost::edges_are_sorted, arcs.ends.begin(), arcs.ends.end(), arcs.costs.begin(), arcs.n);
-        building = since(mark);
-        answers = sssp(graph, source);
-        running = since(mark);
+    Arcs arcs = read_arcs(words[2], spans || algorithm == "sssp", algorithm == "kruskal" ? Directions::Up : Directions::Both);
+    phases.reading = since(mark);
+    bool written;
+    if (spans) {
+        std::uint64_t total = timed(weighted_graph(arcs), algorithm == "prim" ? prim : kruskal, mark);
+        written = print("total " + std::to_string(total) + "\n");
+    } else if (algorithm == "sssp") {
+        written = print(timed(weighted_graph(arcs), [&](auto &graph) { return sssp(graph, source); }, mark));
     } else {
         Graph graph(boost::edges_are_sorted, arcs.ends.begin(), arcs.ends.end(), arcs.n);
-        building = since(mark);
-        answers = sourced ? bfs(graph, source) : components(graph);
-        running = since(mark);
+        auto search = [&](auto &graph) {
+            return sourced ? bfs(graph, source) : algorithm == "colour" ? colour(graph) : components(graph);
+        };
+        written = print(timed(graph, search, mark));
     }
-    std::fprintf(stderr, "%ld ms reading, %ld ms building, %ld ms running\n", reading, building, running);
-    return print(answers) ? 0 : 1;
+    return written ? 0 : 1;
 }
