@@ -49,8 +49,8 @@ module _ (own : ℕ → ℕ) (none : ℕ) where
       let has : colour ≢ none = λ e. let lost : Some x ≡ None = said.1 (is ∙ (same ∙ e)) in absurd (cc) in
       more_places i count colour now least (is ∙ same) has grown
 
-  pub none_place : (i count now : ℕ) (r : Option ℕ) → IsLeast (BelowIn i) count → r ≡ None → (r ≡ None) ↔ (own i ≡ none) → now ≡ count → IsLeast (BelowIn (i + 1)) now
-  none_place i count now r least at said same = subst (IsLeast (BelowIn (i + 1))) (sym same) (no_more i count least (said.0 at))
+  pub none_place : (i count now : ℕ) → IsLeast (BelowIn i) count → own i ≡ none → now ≡ count → IsLeast (BelowIn (i + 1)) now
+  none_place i count now least is same = subst (IsLeast (BelowIn (i + 1))) (sym same) (no_more i count least is)
 
 all_but_last : {X : Type 0} (P : X → Type 0) (all xs : List X) (x : X) → all ≡ xs ++ x ∷ [] → All P all → All P xs × P x
 all_but_last P all xs x is each =

@@ -39,8 +39,7 @@ pub struct Relaxations<L, M> {
 }
 
 impl<L: Label + Copy + Send + Drop, A: Agenda + Send + Drop, M: Agendas<A>> Maker<Relax<L, A>>
-    for Relaxations<L, M>
-{
+    for Relaxations<L, M> {
     ghost use Rattle.std.specs.Prelude.{◌≡◌};
     ghost use Rattle.pg_relax.specs.Shown.{label_in, part_in};
 

@@ -49,9 +49,12 @@ struct Figures {
 const SOURCE: u32 = 1;
 
 /// Runs the algorithm, and prints what came of it and how long it took, and the reading before it.
-pub fn measure_run<
-    R: Threads + Wait + Sync + Clock + Print + Eprint + AllocGlobal + Copy + Send,
->(rt: &R, loaded: Loaded, algorithm: Algorithm, crew: Crew) -> io::Result<()> {
+pub fn measure_run<R: Threads + Wait + Sync + Clock + Print + Eprint + AllocGlobal + Copy + Send>(
+    rt: &R,
+    loaded: Loaded,
+    algorithm: Algorithm,
+    crew: Crew,
+) -> io::Result<()> {
     match algorithm {
         Algorithm::Bfs => relax(rt, loaded, crew, Hops { source: SOURCE }, ByLevel),
         Algorithm::Sssp(delta) => {
