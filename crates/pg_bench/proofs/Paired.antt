@@ -1,7 +1,6 @@
 -- A fact of each entry of a list and the entry of another list in its place, as both grow.
-use Rattle.std.proofs.Common.{◌≡◌, ◌∙◌, ℕ, zero, suc, List, [], ◌∷◌, ◌++◌, length, map, refl, sym, ap, subst, arith}
+use Rattle.std.proofs.Common.{◌≡◌, ℕ, zero, suc, List, [], ◌∷◌, ◌++◌, length, refl, sym, subst, arith}
 use Rattle.std.specs.Prelude.{slice_get, Some}
-use Rattle.pg_group.specs.Entries.{Each}
 use Rattle.pg_bench.specs.Pairs.{EachPair}
 
 -- each entry of two lists as long has one beside it

@@ -1,4 +1,4 @@
-use Rattle.std.proofs.Common.{◌≡◌, All, take}
+use Rattle.std.proofs.Common.{All, take}
 use Rattle.pg_bench.specs.Coloured.{HasColoursBelow, IsLeast}
 use Rattle.pg_bench.proofs.chosen.colour_count.Given as goal
 

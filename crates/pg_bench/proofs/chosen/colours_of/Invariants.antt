@@ -1,4 +1,3 @@
-use Rattle.std.proofs.Common.{◌≡◌}
 use Rattle.pg_bench.specs.Coloured.{AreBelow, IsLeast}
 use Rattle.pg_bench.proofs.chosen.colours_of.Given as goal
 
