@@ -3,8 +3,8 @@
 file of the greatest size and divides its graph among ranks, relaxes over them, lets ranks send each other messages, and
 synchronizes a property map. `pg_queues` sends messages through one lane.
 
-    python3 bench/run.py [--only bfs|algorithms|delta|divide|lane|traffic|cells] [--vertices N] [--edges M] [--rounds K]
-                         [--beside PROGRAM]
+    python3 bench/run.py [--only bfs|algorithms|forest|colour|delta|divide|lane|traffic|cells] [--vertices N] [--edges M]
+                         [--rounds K] [--beside PROGRAM]
 
 Without --vertices and --edges the files have the sizes that are told here; with --vertices alone, eight edges a vertex.
 
@@ -19,6 +19,15 @@ edges by the seeded rule, an R-MAT graph of as many vertices and draws, and a gr
 interleaved runs counts: seconds for the whole and peak memory; then milliseconds of each phase by itself, which `pg_bench`
 tells of the same run without the writing, and its messages, the offers among them, and the ghosts. The outputs are compared
 once for each file and algorithm.
+
+forest: `pbgl forest` runs on the same files, for 1, 2 and 4 ranks on as many threads, beside Boost.Graph's algorithms of
+Kruskal and of Prim, which print the total alone. What counts and what is told is as above, but for the last counts:
+messages, the items among them, and the edges of the forest. The totals are compared once for each file; Prim's isn't, since
+it is that of vertex 1's component.
+
+colour: `pbgl colour` runs on the same files as often, beside Boost.Graph's sequential colouring in ascending order. The last
+counts are messages, the items among them, and the colours. The text of one rank is compared with Boost.Graph's; more ranks
+may colour otherwise.
 
 delta: `pbgl sssp` runs on the same files with buckets of seven widths, on 1 and on 4 ranks with as many threads. For each
 the least of three interleaved runs counts, as above. What takes more than 60 seconds is cut off.
@@ -85,11 +94,15 @@ def printed(words):
         return None
 
 
-def compare(name, programs):
-    """The programs that were not cut off. Ends all where they print different texts."""
+def whole_text(program, text):
+    return text
+
+
+def compare(name, programs, compared=whole_text):
+    """The programs that were not cut off. Ends all where what is compared of their texts, if not None, differs."""
     texts = {program: printed(words) for program, words in programs.items()}
     ended = [program for program, text in texts.items() if text is not None]
-    if len({texts[program] for program in ended}) > 1:
+    if len({compared(program, texts[program]) for program in ended} - {None}) > 1:
         sys.exit("the programs print different texts for " + name)
     return ended
 
@@ -194,9 +207,9 @@ def whole_and_phases(program, phases):
     return [seconds, memory] + times, "; " + counts
 
 
-def report_phases(name, runs, rounds):
+def report_phases(name, runs, rounds, compared=whole_text):
     """Each run has the words of a program, and those of one that tells its phases, or None where it does so itself."""
-    ended = compare(name, {run: program for run, (program, _) in runs.items()})
+    ended = compare(name, {run: program for run, (program, _) in runs.items()}, compared)
     best, counted = {}, {}
     for _ in range(rounds):
         for run in ended:
@@ -247,23 +260,59 @@ def weighted_graphs(make, folder, given):
 
 def over_ranks(file, algorithm, ranks, delta=None):
     """The words of `pbgl` and of `pg_bench` for an algorithm on so many ranks and threads, without the programs' names."""
-    source = [] if algorithm == "components" else ["--source", "1"]
+    source = ["--source", "1"] if algorithm in ("bfs", "sssp") else []
     width = [] if delta is None else ["--delta", str(delta)]
     whole = [algorithm, file] + source + width + ["--ranks", str(ranks), "--threads", str(ranks)]
-    return whole, ["relax", file, algorithm, str(ranks), str(ranks)] + width[1:]
+    named = [algorithm, file] if algorithm in ("forest", "colour") else ["relax", file, algorithm]
+    return whole, named + [str(ranks), str(ranks)] + width[1:]
+
+
+def on_crews(pbgl, pg_bench, file, algorithm):
+    """The runs of an algorithm on 1, 2 and 4 ranks with as many threads."""
+    runs = {}
+    for ranks in (1, 2, 4):
+        whole, phases = over_ranks(file, algorithm, ranks)
+        runs["%d rank%s" % (ranks, "s"[:ranks - 1])] = [pbgl] + whole, [pg_bench] + phases
+    return runs
 
 
 def algorithms(make, folder, given):
     pbgl, pg_bench, boost = built_pbgl(), built("pg_bench"), compiled("algorithms_boost.cpp", folder)
     for name, file in weighted_graphs(make, folder, given).items():
         for algorithm in ("bfs", "sssp", "components"):
-            runs = {}
-            for ranks in (1, 2, 4):
-                whole, phases = over_ranks(file, algorithm, ranks)
-                runs["%d rank%s" % (ranks, "s"[:ranks - 1])] = [pbgl] + whole, [pg_bench] + phases
+            runs = on_crews(pbgl, pg_bench, file, algorithm)
             if boost is not None:
                 runs["boost"] = [boost, algorithm, file] + ["1"] * (algorithm != "components"), None
             report_phases(name + " " + algorithm, runs, given.rounds)
+
+
+def total_line(run, text):
+    """The last line of a forest, or None for Prim's, whose total is of one component."""
+    return None if run == "prim" else text.splitlines()[-1]
+
+
+def forests(make, folder, given):
+    pbgl, pg_bench, boost = built_pbgl(), built("pg_bench"), compiled("algorithms_boost.cpp", folder)
+    for name, file in weighted_graphs(make, folder, given).items():
+        runs = on_crews(pbgl, pg_bench, file, "forest")
+        if boost is not None:
+            runs["kruskal"] = [boost, "kruskal", file], None
+            runs["prim"] = [boost, "prim", file], None
+        report_phases(name + " forest", runs, given.rounds, total_line)
+
+
+def first_fit(run, text):
+    """The colours of a run that goes through all vertices in ascending order, or None for others."""
+    return text if run in ("1 rank", "boost") else None
+
+
+def colours(make, folder, given):
+    pbgl, pg_bench, boost = built_pbgl(), built("pg_bench"), compiled("algorithms_boost.cpp", folder)
+    for name, file in weighted_graphs(make, folder, given).items():
+        runs = on_crews(pbgl, pg_bench, file, "colour")
+        if boost is not None:
+            runs["boost"] = [boost, "colour", file], None
+        report_phases(name + " colour", runs, given.rounds, first_fit)
 
 
 def deltas(make, folder, given):
@@ -294,12 +343,16 @@ def sizes(given, usual):
     return str(vertices), str(given.edges or 8 * vertices)
 
 
+GRAPH_JOBS = {"bfs": searches, "algorithms": algorithms, "forest": forests, "colour": colours, "delta": deltas,
+              "divide": divisions, "cells": maps}
+
+
 def main():
     parser = argparse.ArgumentParser(description=__doc__, formatter_class=argparse.RawDescriptionHelpFormatter)
     parser.add_argument("--vertices", type=int)
     parser.add_argument("--edges", type=int)
     parser.add_argument("--rounds", type=int, default=3)
-    parser.add_argument("--only", choices=["bfs", "algorithms", "delta", "divide", "lane", "traffic", "cells"])
+    parser.add_argument("--only", choices=["lane", "traffic", *GRAPH_JOBS])
     parser.add_argument("--beside")
     given = parser.parse_args()
     if given.only in (None, "lane"):
@@ -315,8 +368,7 @@ def main():
         make = compiled("make_graph.cpp", folder)
         if make is None:
             sys.exit("g++ is missing: no file to measure on")
-        jobs = {"bfs": searches, "algorithms": algorithms, "delta": deltas, "divide": divisions, "cells": maps}
-        for name, job in jobs.items():
+        for name, job in GRAPH_JOBS.items():
             if given.only in (None, name):
                 job(make, folder, given)
 

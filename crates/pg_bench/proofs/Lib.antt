@@ -1,6 +1,8 @@
+mod Bounds
 mod CountedItems
+mod EdgesBelow
 mod Known
-mod Mapped
 mod Others
+mod Paired
 mod Sending
 mod Sums

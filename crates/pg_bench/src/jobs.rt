@@ -1,3 +1,5 @@
+ghost use Rattle.std.specs.Prelude.{◌≡◌, length};
+
 use crate::layouts::Layout;
 use pg_base::Ranks;
 use pg_text::number;
@@ -12,8 +14,8 @@ pub enum Job<'a> {
     Send(Traffic),
     /// To measure a property map.
     Synchronize(Map<'a>),
-    /// To measure a relaxation.
-    Relax(Relaxation<'a>),
+    /// To measure an algorithm.
+    Run(Run<'a>),
 }
 
 /// A graph file, to be read and divided.
@@ -45,12 +47,12 @@ pub struct Map<'a> {
     pub ranks: Ranks,
 }
 
-/// A graph file, over whose graph an algorithm relaxes.
+/// A graph file, over whose graph an algorithm runs.
 #[derive(Clone, Copy, Debug)]
-pub struct Relaxation<'a> {
+pub struct Run<'a> {
     /// The name of the graph file.
     pub file: &'a str,
-    /// By what rule.
+    /// Which one.
     pub algorithm: Algorithm,
     /// By whom.
     pub crew: Crew,
@@ -65,7 +67,7 @@ pub struct Crew {
     pub threads: NonZeroU32,
 }
 
-/// The algorithms that relax. Those with a source have the vertex 1.
+/// The algorithms over ranks. Those with a source have the vertex 1.
 #[derive(Clone, Copy, Debug)]
 pub enum Algorithm {
     /// Least numbers of arcs from the source.
@@ -74,14 +76,18 @@ pub enum Algorithm {
     Sssp(NonZeroU32),
     /// The least vertex of each component.
     Components,
+    /// A least spanning forest.
+    Forest,
+    /// A colour for each vertex.
+    Colour,
 }
 
 // The width of a bucket where no word says it, as that of `pbgl sssp`.
 const USUAL_DELTA: u32 = 32;
 
 impl Algorithm {
-    // The algorithm of this name, with the width of a bucket where a further word writes it.
-    fn named(name: &str, further: &[String]) -> Option<Algorithm> {
+    // The algorithm of this name that relaxes, with the width of a bucket where a further word writes it.
+    fn relaxing(name: &str, further: &[String]) -> Option<Algorithm> {
         match (name, further.first()) {
             ("bfs", None) => Some(Algorithm::Bfs),
             ("sssp", None) => Some(Algorithm::Sssp(NonZeroU32::new(USUAL_DELTA)?)),
@@ -90,16 +96,43 @@ impl Algorithm {
             _ => None,
         }
     }
+
+    // The algorithm of this name that doesn't relax.
+    fn named(name: &str) -> Option<Algorithm> {
+        match name {
+            "forest" => Some(Algorithm::Forest),
+            "colour" => Some(Algorithm::Colour),
+            _ => None,
+        }
+    }
+}
+
+impl Crew {
+    // The crew whose ranks and threads these words write.
+    fn of_words(ranks: &String, threads: &String) -> Option<Crew> {
+        Some(Crew {
+            ranks: Ranks::new(small_number(ranks)?)?,
+            threads: NonZeroU32::new(small_number(threads)?)?,
+        })
+    }
 }
 
 impl<'a> Job<'a> {
-    /// The job of the words `FILE RANKS block|random`, `traffic RANKS ROUNDS`, `cells FILE RANKS` or
-    /// `relax FILE bfs|sssp|components RANKS THREADS [DELTA]`, where `DELTA` is for sssp alone, 32 where it is not told.
-    /// `None` for all others.
+    /// The job of the words `FILE RANKS block|random`, `traffic RANKS ROUNDS`, `cells FILE RANKS`,
+    /// `relax FILE bfs|sssp|components RANKS THREADS [DELTA]`, where `DELTA` is for sssp alone, 32 where it is not told,
+    /// `forest FILE RANKS THREADS` or `colour FILE RANKS THREADS`. `None` for all others.
     pub fn of_words(words: &'a [String]) -> Option<Job<'a>> {
-        if words.len() != 3 {
-            return Job::of_relaxation(words);
+        match words.len() {
+            3 => Job::of_three(words),
+            4 => Job::of_four(words),
+            _ => Job::of_relaxation(words),
         }
+    }
+
+    // The job of the words `FILE RANKS block|random`, `traffic RANKS ROUNDS` or `cells FILE RANKS`.
+    fn of_three(words: &'a [String]) -> Option<Job<'a>>
+        requires { length words.now ≡ 3 }
+    {
         if words[0].as_str() == "cells" {
             let ranks = Ranks::new(small_number(&words[2])?)?;
             let file = words[1].as_str();
@@ -120,18 +153,26 @@ impl<'a> Job<'a> {
         Some(Job::Send(Traffic { ranks, rounds }))
     }
 
+    // The job of the words `forest FILE RANKS THREADS` or `colour FILE RANKS THREADS`.
+    fn of_four(words: &'a [String]) -> Option<Job<'a>>
+        requires { length words.now ≡ 4 }
+    {
+        Some(Job::Run(Run {
+            file: words[1].as_str(),
+            algorithm: Algorithm::named(words[0].as_str())?,
+            crew: Crew::of_words(&words[2], &words[3])?,
+        }))
+    }
+
     // The job of the words `relax FILE bfs|sssp|components RANKS THREADS [DELTA]`.
     fn of_relaxation(words: &'a [String]) -> Option<Job<'a>> {
         if words.len() < 5 || words.len() > 6 || words[0].as_str() != "relax" {
             return None;
         }
-        let algorithm = Algorithm::named(words[2].as_str(), &words[5..])?;
-        let crew = Crew {
-            ranks: Ranks::new(small_number(&words[3])?)?,
-            threads: NonZeroU32::new(small_number(&words[4])?)?,
-        };
+        let algorithm = Algorithm::relaxing(words[2].as_str(), &words[5..])?;
+        let crew = Crew::of_words(&words[3], &words[4])?;
         let file = words[1].as_str();
-        Some(Job::Relax(Relaxation {
+        Some(Job::Run(Run {
             file,
             algorithm,
             crew,

@@ -14,43 +14,45 @@
 //!
 //! divides the graph in blocks, puts a value to each cell of every rank's map, and synchronizes with forward and
 //! backward. It prints how many cells there are, and on standard error the milliseconds of filling and synchronizing.
-//! And it measures the algorithms that relax:
+//! And it measures the algorithms on ranks:
 //!
 //!     pg_bench relax FILE bfs|sssp|components RANKS THREADS [DELTA]
+//!     pg_bench forest FILE RANKS THREADS
+//!     pg_bench colour FILE RANKS THREADS
 //!
 //! divides the graph in blocks and relaxes from vertex 1, or from each vertex for components, with buckets of width
-//! DELTA, or 32, for sssp. It prints how many messages were sent, how many of them were offers and not marks, and how
-//! many ghosts the ranks have together; and on standard error the milliseconds of reading, of dividing together with
-//! making the programs, and of running.
+//! DELTA, or 32, for sssp; or grows a least spanning forest; or colours. It prints how many messages were sent, how many
+//! of them were items, or offers, and not marks, and how many ghosts the ranks have together, edges the forest or colours
+//! the colouring; and on standard error the milliseconds of reading, of dividing together with making the programs, and
+//! of running.
 #![tactic(auto)]
 
 ghost use Rattle.std.specs.Prelude.{◌≡◌};
 
 mod agendas;
+mod chosen;
 mod counted;
+mod groups;
 mod jobs;
 mod layouts;
-mod relaxing;
+mod loading;
+mod makers;
+mod running;
 mod sites;
 #[cfg(test)]
 mod tests;
 mod totals;
 mod traffic;
 
-use agendas::{Agendas, ByBucket, ByLevel};
-use counted::item_count;
-use jobs::{Algorithm, Crew, Division, Job, Traffic};
+use jobs::{Division, Job, Traffic};
 use layouts::{Layout, random_owners};
+use loading::{Loaded, load, load_timed};
 use pg_adj::split;
-use pg_agenda::Agenda;
 use pg_base::{EdgeList, OpenGate, Ranks};
 use pg_dist::{Block, Distribution, Listed};
-use pg_label::{Hops, Label, Root, Weight};
 use pg_lane::RingLanes;
-use pg_metis::{GraphFault, read_graph};
-use pg_outside::{FileInputs, Inputs};
 use pg_run::run;
-use relaxing::group_of_relaxations;
+use running::measure_run;
 use sites::{blocks, sites_of, synchronize};
 use std::io::ErrorKind;
 use std::rt::Clock;
@@ -58,7 +60,7 @@ use std::sync::Wait;
 use std::thread::Threads;
 use std::time::{Duration, Instant};
 use std::{env, io};
-use totals::{Totals, cell_count, ghost_count};
+use totals::{Totals, cell_count};
 use traffic::{group_of_rolls, message_count};
 
 fn main(rt: HostRuntime) -> io::Result<()> {
@@ -70,13 +72,13 @@ fn main(rt: HostRuntime) -> io::Result<()> {
             let graph = load(&rt, map.file)?;
             measure_map(&rt, &graph, map.ranks)
         }
-        Some(Job::Relax(relaxation)) => {
-            let loaded = load_timed(&rt, relaxation.file)?;
-            measure_relaxation(&rt, loaded, relaxation.algorithm, relaxation.crew)
+        Some(Job::Run(job)) => {
+            let loaded = load_timed(&rt, job.file)?;
+            measure_run(&rt, loaded, job.algorithm, job.crew)
         }
         None => Err(io::Error::new(
             ErrorKind::InvalidInput,
-            "the words are FILE RANKS block|random, traffic RANKS ROUNDS, cells FILE RANKS or relax FILE bfs|sssp|components RANKS THREADS [DELTA]",
+            "the words are FILE RANKS block|random, traffic RANKS ROUNDS, cells FILE RANKS, relax FILE bfs|sssp|components RANKS THREADS [DELTA], forest FILE RANKS THREADS or colour FILE RANKS THREADS",
         )),
     }
 }
@@ -105,33 +107,6 @@ fn measure_division(rt: &HostRuntime, job: Division<'_>) -> io::Result<()> {
             )?;
             divide(rt, &graph, &dist, reading)
         }
-    }
-}
-
-// A graph, and how long it took to be read.
-#[derive(Drop)]
-struct Loaded {
-    graph: EdgeList,
-    reading: Duration,
-}
-
-// The graph of the file of this name, with the time that reading took.
-fn load_timed(rt: &HostRuntime, file: &str) -> io::Result<Loaded> {
-    let start = Instant::now(rt)?;
-    let graph = load(rt, file)?;
-    let reading = start.elapsed(rt)?;
-    Ok(Loaded { graph, reading })
-}
-
-// The graph of the file of this name.
-fn load(rt: &HostRuntime, file: &str) -> io::Result<EdgeList> {
-    let mut inputs = FileInputs::new(rt);
-    inputs.begin(file).map_err(|_| ErrorKind::NotFound)?;
-    match read_graph(rt.alloc(), &mut inputs) {
-        Ok(graph) => Ok(graph),
-        Err(GraphFault::Refused { .. }) => Err(ErrorKind::InvalidData.into()),
-        Err(GraphFault::Failed) => Err(ErrorKind::Other.into()),
-        Err(GraphFault::OutOfMemory) => Err(ErrorKind::OutOfMemory.into()),
     }
 }
 
@@ -191,56 +166,4 @@ fn measure_map<R: Clock + Print + Eprint + AllocGlobal + Copy + Send>(
     let running = start.elapsed(rt)?;
     println!(rt; "{} cells", cell_count(&parts))?;
     eprintln!(rt; "{} ms", running.as_millis())
-}
-
-// Where the algorithms that have a source begin.
-const SOURCE: u32 = 1;
-
-// Relaxes by the algorithm, and prints what came of it and how long it took, and the reading before it.
-fn measure_relaxation<
-    R: Threads + Wait + Sync + Clock + Print + Eprint + AllocGlobal + Copy + Send,
->(rt: &R, loaded: Loaded, algorithm: Algorithm, crew: Crew) -> io::Result<()> {
-    match algorithm {
-        Algorithm::Bfs => relax(rt, loaded, crew, Hops { source: SOURCE }, &ByLevel),
-        Algorithm::Sssp(delta) => {
-            let buckets = ByBucket { delta: delta.get() };
-            relax(rt, loaded, crew, Weight { source: SOURCE }, &buckets)
-        }
-        Algorithm::Components => relax(rt, loaded, crew, Root, &ByLevel),
-    }
-}
-
-// Divides the graph in blocks and relaxes, and prints what came of it and how long it took, and the reading before it.
-fn relax<
-    R: Threads + Wait + Sync + Clock + Print + Eprint + AllocGlobal + Copy + Send,
-    L: Label + Copy + Send + Drop,
-    A: Agenda + Send + Drop,
-    M: Agendas<A>,
->(rt: &R, loaded: Loaded, crew: Crew, label: L, agendas: &M) -> io::Result<()> {
-    let Loaded { graph, reading } = loaded;
-    let start = Instant::now(rt)?;
-    let Ok(parts) = blocks(rt.alloc(), &graph, crew.ranks) else {
-        return Err(ErrorKind::OutOfMemory.into());
-    };
-    drop(graph);
-    let ghosts = ghost_count(&parts);
-    let Ok(group) = group_of_relaxations(rt.alloc(), parts, label, agendas) else {
-        return Err(ErrorKind::OutOfMemory.into());
-    };
-    let dividing = start.elapsed(rt)?;
-    let start = Instant::now(rt)?;
-    let finished = run(rt, group, crew.threads.get(), &OpenGate);
-    let running = start.elapsed(rt)?;
-    println!(rt;
-        "{} messages, {} offers, {} ghosts",
-        message_count(&finished.lanes),
-        item_count(&finished.programs),
-        ghosts
-    )?;
-    eprintln!(rt;
-        "{} ms reading, {} ms dividing, {} ms running",
-        reading.as_millis(),
-        dividing.as_millis(),
-        running.as_millis()
-    )
 }

@@ -1,9 +1,10 @@
 //! Property maps of all ranks of a group, driven through their ports by hand.
-ghost use Rattle.std.specs.Prelude.{◌≡◌, ◌≤◌, IfOk, length};
+ghost use Rattle.std.specs.Prelude.{◌≡◌, ◌≤◌, All, IfOk, length};
 ghost use Rattle.pg_group.specs.Entries.{Each};
 ghost use Rattle.pg_group.specs.Ranked.{IsOther};
 ghost use Rattle.pg_group.specs.Supersteps.{AreUnmarked};
 ghost use Rattle.pg_cells.specs.declared.phases.Phase.TheVariants.{Filling};
+ghost use Rattle.pg_bench.specs.Divisions.{HasEdgesBelow};
 ghost use Rattle.pg_bench.specs.Pairs.{EachPair};
 
 use pg_adj::{Part, split};
@@ -178,6 +179,7 @@ pub fn blocks(alloc: Global, graph: &EdgeList, ranks: Ranks) -> Result<Vec<Part>
     ensures count { IfOk result (λ parts. length parts.items ≡ ranks) }
     ensures rank { IfOk result (λ parts. Each (λ rank p. p.rank ≡ rank) parts.items) }
     ensures ranks { IfOk result (λ parts. Each (λ rank p. p.ranks ≡ ranks) parts.items) }
+    ensures edges { IfOk result (λ parts. All (HasEdgesBelow (length graph.now.edges)) parts.items) }
 {
     let parts = split(alloc, graph, &Block::new(graph.n(), ranks))?;
     Ok(parts)

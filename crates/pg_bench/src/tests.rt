@@ -1,18 +1,25 @@
 //! Whole runs of pairs of rolls, of one round and of two, and of relaxations.
-ghost use Rattle.std.specs.Prelude.{◌≡◌, ◌≤◌, IfOk, length};
+ghost use Rattle.std.specs.Prelude.{◌≡◌, ◌≤◌, All, IfOk, length};
 ghost use Rattle.pg_group.specs.Entries.{Each};
+ghost use Rattle.pg_bench.specs.Divisions.{AreInOrder, HasEdgesBelow};
 
 use crate::agendas::{ByBucket, ByLevel};
+use crate::chosen::{colour_count, edge_count};
 use crate::counted::item_count;
-use crate::relaxing::group_of_relaxations;
+use crate::groups::group_of;
+use crate::makers::{Colourings, Forests, Relaxations};
 use crate::sites::blocks;
 use crate::totals::ghost_count;
 use crate::traffic::message_count;
 use pg_adj::Part;
+use pg_agenda::{Buckets, Levels};
 use pg_base::{Edge, EdgeList, OpenGate, OutOfMemory, RankNo, Ranks, laws};
+use pg_boruvka::Dense;
+use pg_colour::Colouring;
 use pg_group::{Program, Roll};
 use pg_label::{Hops, Weight};
 use pg_lane::RingLanes;
+use pg_relax::Relax;
 use pg_run::{Turn, assemble, drive, run};
 use pg_triggers::Pair;
 use std::alloc::Global;
@@ -99,7 +106,11 @@ fn a_search_of_a_path_over_two_ranks_offers_once_to_each_ghost(
 ) -> Result<(), Fail> {
     let parts = path_parts(rt.alloc())?;
     assert_eq!(rt; ghost_count(&parts), 2);
-    let group = group_of_relaxations(rt.alloc(), parts, Hops { source: 1 }, &ByLevel)?;
+    let maker = Relaxations {
+        label: Hops { source: 1 },
+        agendas: ByLevel,
+    };
+    let group = group_of::<Relax<Hops, Levels>, _>(rt.alloc(), parts, &maker)?;
     let finished = run(&rt, group, 2, &OpenGate);
     assert_eq!(rt; item_count(&finished.programs), 2);
     assert!(rt; message_count(&finished.lanes) > 2);
@@ -111,18 +122,39 @@ fn least_weights_of_a_path_over_two_ranks_offer_once_to_each_ghost(
     rt: HostRuntime,
 ) -> Result<(), Fail> {
     let parts = path_parts(rt.alloc())?;
-    let buckets = ByBucket { delta: 4 };
-    let group = group_of_relaxations(rt.alloc(), parts, Weight { source: 1 }, &buckets)?;
+    let maker = Relaxations {
+        label: Weight { source: 1 },
+        agendas: ByBucket { delta: 4 },
+    };
+    let group = group_of::<Relax<Weight, Buckets>, _>(rt.alloc(), parts, &maker)?;
     let finished = run(&rt, group, 1, &OpenGate);
     assert_eq!(rt; item_count(&finished.programs), 2);
+    Ok(())
+}
+
+#[test]
+fn a_forest_of_a_path_over_two_ranks_has_its_edges(rt: HostRuntime) -> Result<(), Fail> {
+    let parts = path_parts(rt.alloc())?;
+    let group = group_of::<Dense, _>(rt.alloc(), parts, &Forests { edges: 2 })?;
+    let finished = run(&rt, group, 2, &OpenGate);
+    assert_eq!(rt; edge_count(rt.alloc(), &finished.programs)?, 2);
+    Ok(())
+}
+
+#[test]
+fn a_colouring_of_a_path_over_two_ranks_has_two_colours(rt: HostRuntime) -> Result<(), Fail> {
+    let parts = path_parts(rt.alloc())?;
+    let group = group_of::<Colouring, _>(rt.alloc(), parts, &Colourings)?;
+    let finished = run(&rt, group, 2, &OpenGate);
+    assert_eq!(rt; colour_count(&finished.programs), 2);
     Ok(())
 }
 
 // The parts of the path 1, 2, 3 beside a vertex of its own, in blocks of two ranks.
 fn path_parts(alloc: Global) -> Result<Vec<Part>, Fail>
     ensures count { IfOk result (λ parts. length parts.items ≡ 2) }
-    ensures rank { IfOk result (λ parts. Each (λ rank p. p.rank ≡ rank) parts.items) }
-    ensures ranks { IfOk result (λ parts. Each (λ rank p. p.ranks ≡ 2) parts.items) }
+    ensures order { IfOk result (λ parts. AreInOrder parts.items) }
+    ensures edges { IfOk result (λ parts. All (HasEdgesBelow 2) parts.items) }
 {
     let first = Edge { u: 1, v: 2, w: 5 };
     let second = Edge { u: 2, v: 3, w: 2 };

@@ -42,6 +42,13 @@ impl Colouring {
         })
     }
 
+    /// How many own vertices there are.
+    pub fn count(&self) -> u32
+        ensures { result ≡ length (part_in self.now).vertices }
+    {
+        self.part.count()
+    }
+
     /// The colour of the own vertex at the place, from 0; `None` where it has none yet. Once the colouring has ended each
     /// vertex has one.
     pub fn colour(&self, place: u32) -> Option<u32>

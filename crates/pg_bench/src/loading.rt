@@ -1,0 +1,34 @@
+//! Graphs of files.
+use pg_base::EdgeList;
+use pg_metis::{GraphFault, read_graph};
+use pg_outside::{FileInputs, Inputs};
+use std::io;
+use std::io::ErrorKind;
+use std::time::{Duration, Instant};
+
+/// A graph, and how long it took to be read.
+#[derive(Drop)]
+pub struct Loaded {
+    pub graph: EdgeList,
+    pub reading: Duration,
+}
+
+/// The graph of the file of this name, with the time that reading took.
+pub fn load_timed(rt: &HostRuntime, file: &str) -> io::Result<Loaded> {
+    let start = Instant::now(rt)?;
+    let graph = load(rt, file)?;
+    let reading = start.elapsed(rt)?;
+    Ok(Loaded { graph, reading })
+}
+
+/// The graph of the file of this name.
+pub fn load(rt: &HostRuntime, file: &str) -> io::Result<EdgeList> {
+    let mut inputs = FileInputs::new(rt);
+    inputs.begin(file).map_err(|_| ErrorKind::NotFound)?;
+    match read_graph(rt.alloc(), &mut inputs) {
+        Ok(graph) => Ok(graph),
+        Err(GraphFault::Refused { .. }) => Err(ErrorKind::InvalidData.into()),
+        Err(GraphFault::Failed) => Err(ErrorKind::Other.into()),
+        Err(GraphFault::OutOfMemory) => Err(ErrorKind::OutOfMemory.into()),
+    }
+}
