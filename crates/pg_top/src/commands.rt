@@ -148,9 +148,11 @@ fn run<W: Threads + Wait + Sync, I: Inputs, S: Sink, G: Gate>(
 /// one. This is a line for each vertex from 1 to n: for `bfs` the least number of arcs of a walk from the source, for
 /// `sssp` the least weight of one, `-` where no walk leads there, and for `components` the least vertex that a
 /// walk joins to it. For `forest` it is a line `u v w` for each edge of the least spanning forest, ascending, ties in
-/// weight going by (u, v), and then `total T` with the sum of the weights; no edges that span weigh less. The text is
-/// the same for every number of ranks and threads, every capacity of lanes and every partition file. With every other status one line that tells the fault was written to `errs`, whose own faults change
-/// nothing.
+/// weight going by (u, v), and then `total T` with the sum of the weights; no edges that span weigh less. For `colour` it is
+/// again a line for each vertex, with a colour from 0 that none of its neighbours has, at most its degree; on one rank
+/// that of first fit. But for the colours, the text is the same for every number of ranks and threads, every capacity of
+/// lanes and every partition file. With every other status one line that tells the fault was written to `errs`, whose own
+/// faults change nothing.
 ///
 /// The first fault that is met is answered, in this order: the words (`BadWords`), beginning and reading the
 /// graph file (`ReadFault`, `BadGraph`), beginning and reading the partition file (`ReadFault`, `BadParts`), the source
