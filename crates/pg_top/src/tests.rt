@@ -456,26 +456,31 @@ fn one_rank_colours_by_first_fit(rt: HostRuntime) -> Result<(), Fail> {
     Ok(())
 }
 
-/// The edges of the mesh.
+/// The edges of the mesh, by the places of their ends.
 const MESH_EDGES: [(usize, usize); 11] = [
+    (0, 1),
+    (0, 2),
+    (0, 4),
     (1, 2),
     (1, 3),
-    (1, 5),
     (2, 3),
     (2, 4),
-    (3, 4),
     (3, 5),
-    (4, 6),
-    (4, 7),
+    (3, 6),
+    (4, 5),
     (5, 6),
-    (6, 7),
 ];
+
+/// The line of a vertex, where each line has one digit.
+fn digit_at(text: &[u8], place: usize) -> Option<&u8> {
+    text.get(place.saturating_mul(2))
+}
 
 /// Whether the ends of each of the mesh's edges have lines of different colours, each of one digit.
 fn is_proper(text: &[u8]) -> bool {
     let mut apart = text.len() == 14;
     for (u, v) in MESH_EDGES {
-        apart = apart && text.get(u * 2 - 2) != text.get(v * 2 - 2);
+        apart = apart && digit_at(text, u) != digit_at(text, v);
     }
     apart
 }
