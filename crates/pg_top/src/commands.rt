@@ -10,7 +10,7 @@ ghost use Rattle.pg_base.specs.Graph.{Graph};
 ghost use Rattle.pg_words.specs.Built.{IsBuilt};
 ghost use Rattle.pg_words.specs.Plan.{Meaning, meaning_of, plan_of, texts};
 ghost use Rattle.pg_top.specs.Answered.{text_in};
-ghost use Rattle.pg_top.specs.Files.{FileHolds, HasGraph, HasInput, IsReadToEnd, MissesFile, PartsHold};
+ghost use Rattle.pg_top.specs.Files.{FileHolds, HasGraph, HasInput, IsReadToEnd, MissesFile, PartsHold, ReadsFiles};
 ghost use Rattle.pg_top.specs.Run.{HasPlan, HasText, InputFails, IsOrNoMemory, IsOutside, PlanFails, PrepareFails, Reports, RunFails, Tells, TellsInput, TellsPartsFault, from_plan};
 ghost use Rattle.pg_top.specs.Text.{IsInside};
 ghost use Rattle.pg_top.specs.Work.{HasWork, IsSolved};
@@ -18,7 +18,7 @@ ghost use Rattle.pg_top.specs.Work.{HasWork, IsSolved};
 use crate::answers::print_answers;
 use crate::inputs::read_input;
 use crate::solving::{Solved, crew_of, solve};
-use crate::{Answer, Plan, PlanFault, Work, plan};
+use crate::{Algorithm, Answer, Plan, PlanFault, Work, plan};
 use pg_base::{Gate, Status};
 use pg_outside::{Inputs, Sink};
 use pg_print::{Fault, print_fault};
@@ -58,7 +58,8 @@ fn find<W: Threads + Wait + Sync, I: Inputs, G: Gate>(
     requires { IsBuilt (meaning_of plan.now) }
     ensures found { IfOk result (λ s. HasInput (meaning_of plan.now) (I.files inputs.old)
         (λ g owners. IsSolved (meaning_of plan.now) g owners (text_in s.answers) s.work)) }
-    ensures end { OnOk result (IsReadToEnd (I.files inputs.old) (I.left inputs.new)) }
+    ensures end { OnOk result (ReadsFiles plan.now.algorithm → IsReadToEnd (I.files inputs.old) (I.left inputs.new)) }
+    ensures unread { plan.now.algorithm ≡ Algorithm.Grid → inputs.new ≡ inputs.old }
     ensures fails { IfErr result (InputFails (meaning_of plan.now) (I.files inputs.old) (I.faults inputs.old) (I.faults inputs.new)) }
     ensures later { I.faults inputs.old ≤ I.faults inputs.new }
     ensures files { I.files inputs.new ≡ I.files inputs.old }
@@ -78,9 +79,10 @@ fn prepare<W: Threads + Wait + Sync, I: Inputs, G: Gate>(
 ) -> Result<Solved, Fault>
     ensures found { IfOk result (λ s. HasPlan (texts words.now) (λ plan. HasInput plan (I.files inputs.old)
         (λ g owners. IsSolved plan g owners (text_in s.answers) s.work))) }
-    ensures end { OnOk result (IsReadToEnd (I.files inputs.old) (I.left inputs.new)) }
+    ensures end { OnOk result (HasPlan (texts words.now) (λ plan. ReadsFiles plan.algorithm → IsReadToEnd (I.files inputs.old) (I.left inputs.new))) }
     ensures fails { IfErr result (PrepareFails (texts words.now) (I.files inputs.old) (I.faults inputs.old) (I.faults inputs.new)) }
     ensures unread { plan_of (texts words.now) ≡ None → inputs.new ≡ inputs.old }
+    ensures made { (plan : Meaning) → plan_of (texts words.now) ≡ Some plan → plan.algorithm ≡ Algorithm.Grid → inputs.new ≡ inputs.old }
     ensures later { I.faults inputs.old ≤ I.faults inputs.new }
     ensures files { I.files inputs.new ≡ I.files inputs.old }
 {
@@ -121,7 +123,7 @@ fn run<W: Threads + Wait + Sync, I: Inputs, S: Sink, G: Gate>(
     ensures no_work { IfErr result.0 (λ fault. (fault ≡ Fault.Write → ⊥) → result.1 ≡ Work.None) }
     ensures printed { OnOk result.0 (HasPlan (texts words.now)
         (λ plan. HasText plan (I.files inputs.old) (Appends (S.text out.old) (S.text out.new)))) }
-    ensures end { OnOk result.0 (IsReadToEnd (I.files inputs.old) (I.left inputs.new)) }
+    ensures end { OnOk result.0 (HasPlan (texts words.now) (λ plan. ReadsFiles plan.algorithm → IsReadToEnd (I.files inputs.old) (I.left inputs.new))) }
     ensures fails { IfErr result.0 (RunFails (texts words.now) (I.files inputs.old) (record {
       inputs_before = I.faults inputs.old;
       inputs_after = I.faults inputs.new;
@@ -132,6 +134,7 @@ fn run<W: Threads + Wait + Sync, I: Inputs, S: Sink, G: Gate>(
     })) }
     ensures silent { IfErr result.0 (λ fault. (fault ≡ Fault.Write → ⊥) → out.new ≡ out.old) }
     ensures unread { plan_of (texts words.now) ≡ None → inputs.new ≡ inputs.old }
+    ensures made { (plan : Meaning) → plan_of (texts words.now) ≡ Some plan → plan.algorithm ≡ Algorithm.Grid → inputs.new ≡ inputs.old }
     ensures later { I.faults inputs.old ≤ I.faults inputs.new }
     ensures files { I.files inputs.new ≡ I.files inputs.old }
     ensures out_later { S.faults out.old ≤ S.faults out.new }
@@ -176,21 +179,22 @@ pub fn command<W: Threads + Wait + Sync, I: Inputs, S: Sink, E: Sink, G: Gate>(
     ensures works_partly { result.status ≡ Status.WriteFault → HasPlan (texts words.now)
         (λ plan. HasWork plan (I.files inputs.old) result.work (AppendsFront (S.text out.old) (S.text out.new))) }
     ensures no_work { (result.status ≡ Status.Ok → ⊥) → (result.status ≡ Status.WriteFault → ⊥) → result.work ≡ Work.None }
-    ensures read_to_end { result.status ≡ Status.Ok → IsReadToEnd (I.files inputs.old) (I.left inputs.new) }
+    ensures read_to_end { result.status ≡ Status.Ok → HasPlan (texts words.now)
+        (λ plan. ReadsFiles plan.algorithm → IsReadToEnd (I.files inputs.old) (I.left inputs.new)) }
     ensures silent { (result.status ≡ Status.Ok → ⊥) → (result.status ≡ Status.WriteFault → ⊥) →
         out.new ≡ out.old }
 
     // Only where the cause stands.
     ensures bad_words { result.status ≡ Status.BadWords → plan_of (texts words.now) ≡ None }
     ensures bad_graph { result.status ≡ Status.BadGraph → HasPlan (texts words.now)
-        (λ plan. FileHolds plan.file (I.files inputs.old) (λ text. (fault : FirstFault) × (fault_of text ≡ Some fault))) }
+        (λ plan. ReadsFiles plan.algorithm × FileHolds plan.file (I.files inputs.old) (λ text. (fault : FirstFault) × (fault_of text ≡ Some fault))) }
     ensures bad_parts { result.status ≡ Status.BadParts → HasPlan (texts words.now)
-        (λ plan. HasGraph plan.file (I.files inputs.old) (λ g. PartsHold plan.parts (I.files inputs.old)
+        (λ plan. ReadsFiles plan.algorithm × HasGraph plan.file (I.files inputs.old) (λ g. PartsHold plan.parts (I.files inputs.old)
         (λ text. (fault : FirstPartsFault) × (parts_fault_of g.n plan.ranks text ≡ Some fault)))) }
     ensures bad_source { result.status ≡ Status.BadSource → HasPlan (texts words.now)
         (λ plan. HasInput plan (I.files inputs.old) (λ g owners. IsOutside plan g.n)) }
     ensures read_fault { result.status ≡ Status.ReadFault → HasPlan (texts words.now)
-        (λ plan. Rose (I.faults inputs.old) (I.faults inputs.new) ⊎ MissesFile plan (I.files inputs.old)) }
+        (λ plan. ReadsFiles plan.algorithm × (Rose (I.faults inputs.old) (I.faults inputs.new) ⊎ MissesFile plan (I.files inputs.old))) }
     ensures write_fault { result.status ≡ Status.WriteFault → HasPlan (texts words.now)
         (λ plan. Rose (S.faults out.old) (S.faults out.new) ×
         HasText plan (I.files inputs.old) (AppendsFront (S.text out.old) (S.text out.new))) }
@@ -213,6 +217,8 @@ pub fn command<W: Threads + Wait + Sync, I: Inputs, S: Sink, E: Sink, G: Gate>(
         TellsInput (texts words.now) (I.files inputs.old) plan g → IsInside plan.algorithm plan.source g.n →
         (Rose (I.faults inputs.old) (I.faults inputs.new) → ⊥) →
         (Rose (S.faults out.old) (S.faults out.new) → ⊥) → IsOrNoMemory Status.Ok result.status }
+    ensures complete_grid { (plan : Meaning) → plan_of (texts words.now) ≡ Some plan → plan.algorithm ≡ Algorithm.Grid →
+        (Rose (S.faults out.old) (S.faults out.new) → ⊥) → IsOrNoMemory Status.Ok result.status }
 
     // What is told of a fault.
     ensures quiet { result.status ≡ Status.Ok → errs.new ≡ errs.old }
@@ -230,6 +236,7 @@ pub fn command<W: Threads + Wait + Sync, I: Inputs, S: Sink, E: Sink, G: Gate>(
 
     // What stays.
     ensures unread { plan_of (texts words.now) ≡ None → inputs.new ≡ inputs.old }
+    ensures made { (plan : Meaning) → plan_of (texts words.now) ≡ Some plan → plan.algorithm ≡ Algorithm.Grid → inputs.new ≡ inputs.old }
     ensures files { I.files inputs.new ≡ I.files inputs.old }
     ensures later { I.faults inputs.old ≤ I.faults inputs.new }
     ensures out_later { S.faults out.old ≤ S.faults out.new }

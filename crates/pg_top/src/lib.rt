@@ -8,10 +8,13 @@ mod columns;
 mod commands;
 mod crews;
 mod forests;
+mod gridding;
 mod inputs;
 pub mod laws;
+mod pairs;
 mod relaxing;
 mod solving;
+mod tallying;
 #[cfg(test)]
 mod tests;
 mod weights;
