@@ -2,6 +2,7 @@ pub mod OneText
 pub mod SearchTexts
 pub mod TreeTexts
 pub mod Steps
+pub mod TallyLemmas
 pub mod RunLemmas
 pub mod BestLemmas
 pub mod Outcomes

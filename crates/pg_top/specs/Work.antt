@@ -33,8 +33,10 @@ use Rattle.pg_top.specs.Coloured.{AreHeld, IsColouring, SeeOwners}
 use Rattle.pg_top.specs.Grown.{IsGrowth}
 use Rattle.pg_top.specs.Relaxed.{AreAnswers, IsRelaxation, value_of}
 use Rattle.pg_top.specs.Files.{HasInput}
-use Rattle.pg_top.specs.Paired.{HopsAndRoots, IsPairCarried}
+use Rattle.pg_top.specs.Paired.{ByHops, ByRoots, IsPairCarried}
+use Rattle.pg_group.specs.declared.programs.Program.{Ghosts as ProgramGhosts}
 use Rattle.pg_triggers.specs.declared.items.Of2.{Of2}
+use Rattle.pg_triggers.specs.declared.pairs.Pair.{Pair}
 use Rattle.pg_top.specs.Summary.{clash_count, summary_of}
 use Rattle.pg_top.specs.Text.{AreColours, IsTextOf}
 use Rattle.pg_top.specs.declared.works.Work.{Work}
@@ -107,11 +109,11 @@ pub record HasColours (owners : Option (List ℕ)) (ranks capacity : ℕ) (g : G
   pub coloured : IsColouredBy owners ranks capacity g answers programs lanes
   pub ghosts : SeeOwners coloured.sharing programs
 
-module _ {L A : Type 0} {l : LabelGhosts L} {a : AgendaGhosts A} where
+module _ {L A : Type 0} {l : LabelGhosts L} {a : AgendaGhosts A} {p : ProgramGhosts ByHops Offer} {q : ProgramGhosts ByRoots Offer} where
   -- The programs of every algorithm on a graph that is divided in blocks: a breadth-first search from vertex 1 and components in one run,
   -- a relaxation by this label, a least spanning forest and a colouring; and the text spells the numbers that are counted from the answers
   -- they hold.
-  pub record SpellsSummary (label : L) (takes : Places) (ranks capacity : ℕ) (g : Graph) (text : List ℕ) (both : List HopsAndRoots) (both_lanes : List (Settled (Envelope (Of2 Offer Offer)))) (weighing : List (Relax L A l a)) (weighing_lanes : List (Settled (Envelope Offer)))
+  pub record SpellsSummary (label : L) (takes : Places) (ranks capacity : ℕ) (g : Graph) (text : List ℕ) (both : List (Pair ByHops ByRoots Offer Offer p q)) (both_lanes : List (Settled (Envelope (Of2 Offer Offer)))) (weighing : List (Relax L A l a)) (weighing_lanes : List (Settled (Envelope Offer)))
       (spanning : List Dense) (spanning_lanes : List (Settled (Envelope Message))) (colouring : List Colouring) (colouring_lanes : List (Settled (Envelope CellBody))) : Type 0 where
     pub hops : List (Option ℕ)
     pub weights : List (Option ℕ)
