@@ -8,4 +8,5 @@ pub mod Run
 pub mod Text
 pub mod TextLaws
 pub mod Relaxed
+pub mod Paired
 pub mod Work

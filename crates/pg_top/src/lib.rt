@@ -10,6 +10,9 @@ mod crews;
 mod forests;
 mod inputs;
 pub mod laws;
+#[cfg(test)]
+mod pair_tests;
+mod pairs;
 mod relaxing;
 mod solving;
 #[cfg(test)]
