@@ -118,20 +118,21 @@ module _ {L A : Type 0} {l : LabelGhosts L} {a : AgendaGhosts A} {takes : Places
         whole_is_relaxed (label_of (l.start label) (l.add label)) g.n s.ranks (arcs_of g.edges) s.owner s.local (states_by q.0) sent taken
         (divided_among q.0) run.book run.marks (kept_by q.0) arc x given apart (sym (value_by q.0 arc.from ends.from.first ends.from.last) ∙ has) within
 
-module _ {A : Type 0} {a : AgendaGhosts A} {takes : Places} (s : Sharing) (laws : IsSharing s) (g : Graph) (is : IsGraph g) (same : g.n ≡ s.n) (sent taken : PairLists Offer) (answers : List (Option ℕ)) where
-  cheap : All (λ (b : Arc). 1 < 2 ^ 32) (arcs_of g.edges)
-  cheap = λ k d h. omega arith
+-- arcs that cost one each cost little
+cheap : (arcs : List Arc) → All (λ (b : Arc). 1 < 2 ^ 32) arcs
+cheap arcs = λ k d h. omega arith
 
+module _ {A : Type 0} {a : AgendaGhosts A} {takes : Places} (s : Sharing) (laws : IsSharing s) (g : Graph) (is : IsGraph g) (same : g.n ≡ s.n) (sent taken : PairLists Offer) (answers : List (Option ℕ)) where
   pub hops_over : (source : Hops) (programs : List (Relax Hops A by_hops a)) → IsRelaxedOver source takes s g sent taken programs → AreAnswers Amount s programs answers
       → AreLeastArcs g source.source answers × Relaxed (label_of (by_hops.start source) (by_hops.add source)) (arcs_of g.edges) s.owner s.local (value_of s programs) sent
   hops_over source programs run are = (
     record {
       count = are.count ∙ sym same;
       each = λ v h.
-          let best = best_over source s laws g sent taken programs run is same cheap (v + 1) (omega arith) (omega (arith, h)) in
+          let best = best_over source s laws g sent taken programs run is same (cheap (arcs_of g.edges)) (v + 1) (omega arith) (omega (arith, h)) in
           subst (LeastArcs (arcs_of g.edges) source.source (v + 1)) (sym (are.each v (omega (arith, h, same)))) (hops_are_least (arcs_of g.edges) source.source (v + 1) (value_of s programs (v + 1)) best);
     },
-    relaxed_over source s laws g sent taken programs run is same cheap,
+    relaxed_over source s laws g sent taken programs run is same (cheap (arcs_of g.edges)),
   )
 
   pub roots_over : (root : Root) (programs : List (Relax Root A by_root a)) → IsRelaxedOver root takes s g sent taken programs → AreAnswers Class s programs answers
@@ -140,9 +141,9 @@ module _ {A : Type 0} {a : AgendaGhosts A} {takes : Places} (s : Sharing) (laws 
     record {
       count = are.count ∙ sym same;
       each = λ v h.
-          let best = best_over root s laws g sent taken programs run is same cheap (v + 1) (omega arith) (omega (arith, h)) in
+          let best = best_over root s laws g sent taken programs run is same (cheap (arcs_of g.edges)) (v + 1) (omega arith) (omega (arith, h)) in
           let x = roots_are_lowest (arcs_of g.edges) (v + 1) (value_of s programs (v + 1)) best in
           subst (IsRootOf g (v + 1)) (sym (are.each v (omega (arith, h, same)) ∙ ap class_in x.1)) x.2;
     },
-    relaxed_over root s laws g sent taken programs run is same cheap,
+    relaxed_over root s laws g sent taken programs run is same (cheap (arcs_of g.edges)),
   )

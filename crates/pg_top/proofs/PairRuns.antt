@@ -67,7 +67,7 @@ ended_at p opening machines openings programs sent taken same count ended keeps 
     (record { within = h; keeps = keeps rank q.0 q.1 rank m.0 m.1 refl; ended = ended rank q.0 q.1 }))
 
 -- A member of programs that have ended, where it is a relaxation.
-module _ {P B L A : Type 0} {l : LabelGhosts L} {a : AgendaGhosts A} {takes : Places} (p : ProgramGhosts P B) (q : ProgramGhosts (Relax L A l a) Offer) (member : P → Relax L A l a) (part : ℕ → PairLists B → PairLists Offer)
+module _ {P B L A : Type 0} {l : LabelGhosts L} {a : AgendaGhosts A} (p : ProgramGhosts P B) (q : ProgramGhosts (Relax L A l a) Offer) (member : P → Relax L A l a) (part : ℕ → PairLists B → PairLists Offer)
     (keeps : (start now : Relax L A l a) (handled sent : List (List (Body Offer))) → q.Keeps start handled sent now → KeepsRelaxed start handled sent now)
     (ends : (now : Relax L A l a) → q.ended now ≡ true → (state_of now).ended ≡ true) where
   relaxed_from : (ranks rank : ℕ) (sent taken : PairLists Offer) (was start is now : Relax L A l a) → HasEnded q ranks rank sent taken was is → was ≡ start → is ≡ now → HasRelaxed ranks rank sent taken start now
@@ -81,7 +81,7 @@ module _ {P B L A : Type 0} {l : LabelGhosts L} {a : AgendaGhosts A} {takes : Pl
         sent_is = h.keeps.sent_is;
       }))
 
-  pub member_relaxed : (label : L) (s : Sharing) (g : Graph) (sent taken : PairLists B) (openings programs : List P) (d : P) → AreOpen label takes s g (map member openings) → length programs ≡ s.ranks
+  pub member_relaxed : {takes : Places} (label : L) (s : Sharing) (g : Graph) (sent taken : PairLists B) (openings programs : List P) (d : P) → AreOpen label takes s g (map member openings) → length programs ≡ s.ranks
       → (book : HaveBook p q member part s.ranks sent taken (λ r. slice_index_or openings r d) (λ r. slice_index_or programs r d))
       → IsRelaxedOver label takes s g (part book.last sent) (part book.last taken) (map member programs)
   member_relaxed label s g sent taken openings programs d opens count book =
