@@ -30,14 +30,14 @@ among p (suc n) i a h c at = ⊎_elim
     (among p n i a (omega arith) c (cases_eq i n)))
     (cases_eq i n)
 
-record IsOfPlace (p : Portion) (n : ℕ) (a : LocalArc) : Type 0 where
+pub record IsOfPlace (p : Portion) (n : ℕ) (a : LocalArc) : Type 0 where
   pub place : ℕ
   pub below : place < n
   pub arc : Arc
   pub stands : Contains (row p place) arc
   pub is : local_of (slice_index p.vertices place) arc ≡ a
 
-of_place : (p : Portion) (n : ℕ) (a : LocalArc) → Contains (arcs_below p n) a → IsOfPlace p n a
+pub of_place : (p : Portion) (n : ℕ) (a : LocalArc) → Contains (arcs_below p n) a → IsOfPlace p n a
 of_place p zero a c = absurd (omega (arith, c.1))
 of_place p (suc n) a c = ⊎_elim
     (λ before. let found = of_place p n a before in record { place = found.place; below = omega (arith, found.below); arc = found.arc; stands = found.stands; is = found.is })

@@ -31,6 +31,8 @@ pub mod RoundsEnding
 pub mod Seeking
 pub mod Unhooked
 pub mod DenseRuns
+pub mod OrderlyArcs
+pub mod NewViews
 pub mod PointerWalks
 pub mod PointerPairs
 pub mod LabelMoves

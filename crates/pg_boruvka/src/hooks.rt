@@ -86,7 +86,7 @@ impl Hooks {
 }
 
 // Makes each entry its own place.
-fn reset(targets: &mut [u32])
+pub(crate) fn reset(targets: &mut [u32])
     requires { length targets.old < 2 ^ 32 }
     ensures own { (l : ℕ) → l < length targets.new → slice_index targets.new l ≡ l }
     ensures same_count { length targets.new ≡ length targets.old }

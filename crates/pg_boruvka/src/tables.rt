@@ -1,5 +1,5 @@
 //! What a rank knows of labels, arcs and edges.
-ghost use Rattle.std.specs.Prelude.{◌≡◌, ℕ, ◌+◌, ◌<◌, ◌≤◌, None, Some, All, IfNone, IfOk, IfSome, filter, length, slice_index, true, false, ◌↔◌};
+ghost use Rattle.std.specs.Prelude.{◌≡◌, ℕ, ◌^◌, ◌+◌, ◌<◌, ◌≤◌, None, Some, All, IfNone, IfOk, IfSome, filter, length, slice_index, true, false, ◌↔◌};
 ghost use Rattle.pg_base.specs.declared.TheConstants.{MAX_EDGES, MAX_VERTICES};
 ghost use Rattle.pg_boruvka.specs.declared.messages.Message.TheVariants.{Piece as Keys};
 ghost use Rattle.pg_boruvka.specs.Arcs.{IsInTables, IsOfEdge, locals, is_apart, AreLeasts};
@@ -10,7 +10,7 @@ ghost use Rattle.pg_boruvka.specs.Pointers.{AreMoved, AreTogether};
 
 use crate::arcs::DenseArc;
 use crate::gathering::gather;
-use crate::hooks::Hooks;
+use crate::hooks::{Hooks, reset};
 use crate::pointers::move_to_ends;
 use crate::{Hook, NO_KEY, Piece, chosen, winners};
 use std::alloc::{AllocError, Global};
@@ -69,11 +69,11 @@ impl Tables {
     {
         let count = n as usize + 1;
         let hooks = Hooks::new(alloc, count)?;
-        let labels = hooks.targets.clone()?;
-        let keys = vec![in alloc; NO_KEY; count]?;
-        let across = vec![in alloc; 0; count]?;
-        let winners = vec![in alloc; NO_KEY; count]?;
-        let chosen = vec![in alloc; false; edges as usize]?;
+        let labels = own_labels(alloc, count)?;
+        let keys = no_keys(alloc, count)?;
+        let across = no_labels(alloc, count)?;
+        let winners = no_keys(alloc, count)?;
+        let chosen = no_marks(alloc, edges as usize)?;
         Ok(Tables {
             arcs,
             labels,
@@ -193,4 +193,39 @@ impl Tables {
     {
         winners::are_none(&self.winners)
     }
+}
+
+// For each number below the count itself.
+fn own_labels(alloc: Global, count: usize) -> Result<Vec<u32>, AllocError>
+    requires { count < 2 ^ 32 }
+    ensures each { IfOk result (λ labels. length labels.items ≡ count) }
+    ensures own { IfOk result (λ labels. (l : ℕ) → l < length labels.items → slice_index labels.items l ≡ l) }
+{
+    let mut labels = vec![in alloc; 0; count]?;
+    reset(&mut labels);
+    Ok(labels)
+}
+
+// So many times no key.
+fn no_keys(alloc: Global, count: usize) -> Result<Vec<u64>, AllocError>
+    ensures each { IfOk result (λ keys. length keys.items ≡ count) }
+    ensures none { IfOk result (λ keys. All (λ key. key ≡ NO_KEY) keys.items) }
+{
+    vec![in alloc; NO_KEY; count]
+}
+
+// So many times the entry that is no label.
+fn no_labels(alloc: Global, count: usize) -> Result<Vec<u32>, AllocError>
+    ensures each { IfOk result (λ labels. length labels.items ≡ count) }
+    ensures none { IfOk result (λ labels. All (λ l. l ≡ 0) labels.items) }
+{
+    vec![in alloc; 0; count]
+}
+
+// So many times no mark.
+fn no_marks(alloc: Global, count: usize) -> Result<Vec<bool>, AllocError>
+    ensures each { IfOk result (λ marks. length marks.items ≡ count) }
+    ensures none { IfOk result (λ marks. All (λ is. is ≡ false) marks.items) }
+{
+    vec![in alloc; false; count]
 }

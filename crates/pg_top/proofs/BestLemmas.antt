@@ -40,7 +40,7 @@ got (y ∷ xs) zero x d e = let same : y ≡ x = cc in same
 got (y ∷ xs) (suc k) x d e = got xs k x d e
 
 -- the parts may be given by another function, if it says the same of the ranks
-divided_alike : (n ranks : ℕ) (arcs : List Arc) (owner place : ℕ → ℕ) (parts parts' : ℕ → Part) → All (IsArc n) arcs → ((r : ℕ) → r < ranks → parts r ≡ parts' r)
+pub divided_alike : (n ranks : ℕ) (arcs : List Arc) (owner place : ℕ → ℕ) (parts parts' : ℕ → Part) → All (IsArc n) arcs → ((r : ℕ) → r < ranks → parts r ≡ parts' r)
     → IsDivided n ranks arcs owner place parts → IsDivided n ranks arcs owner place parts'
 divided_alike n ranks arcs owner place parts parts' are same d = record {
   rank = λ r h. ap (λ (p : Part). p.rank) (sym (same r h)) ∙ d.rank r h;

@@ -14,3 +14,5 @@ pub mod Causes
 pub mod ColourLemmas
 pub mod EdgesBelow
 pub mod GrownLemmas
+pub mod OverBooks
+pub mod PairRuns

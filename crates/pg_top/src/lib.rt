@@ -11,6 +11,8 @@ mod forests;
 mod gridding;
 mod inputs;
 pub mod laws;
+#[cfg(test)]
+mod pair_tests;
 mod pairs;
 mod relaxing;
 mod solving;
