@@ -16,3 +16,5 @@ pub mod EdgesBelow
 pub mod GrownLemmas
 pub mod OverBooks
 pub mod PairRuns
+pub mod GridLemmas
+pub mod SummaryTexts

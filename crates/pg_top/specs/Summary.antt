@@ -11,6 +11,10 @@ use Rattle.pg_print.specs.declared.summaries.Tally.{Tally}
 abbrev pub number_in : Option ℕ → ℕ
 number_in answer = unwrap_or answer 0
 
+-- No distance on a grid is greater: fewer than 1,048,576 arcs, each of a weight of at most 4,096.
+abbrev pub max_distance : ℕ
+max_distance = 4294967296
+
 -- The greatest number of them, 0 where there is none.
 abbrev pub greatest : List (Option ℕ) → ℕ
 greatest answers = fold (λ most a. max most (number_in a)) 0 answers

@@ -19,7 +19,7 @@ use crate::answers::print_answers;
 use crate::inputs::read_input;
 use crate::solving::{Solved, crew_of, solve};
 use crate::{Algorithm, Answer, Plan, PlanFault, Work, plan};
-use pg_base::{Gate, Status};
+use pg_base::{Gate, OutOfMemory, Status};
 use pg_outside::{Inputs, Sink};
 use pg_print::{Fault, print_fault};
 use std::alloc::Global;
@@ -66,7 +66,10 @@ fn find<W: Threads + Wait + Sync, I: Inputs, G: Gate>(
 {
     let crew = crew_of(plan);
     let input = read_input(alloc, inputs, plan, crew.ranks)?;
-    solve(token, alloc, input, plan, &crew, gate).map_err(|_| Fault::Memory)
+    match solve(token, alloc, input, plan, &crew, gate) {
+        Ok(solved) => Ok(solved),
+        Err(OutOfMemory) => Err(Fault::Memory),
+    }
 }
 
 /// Plans, reads and runs the plan's algorithm.

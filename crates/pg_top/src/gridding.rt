@@ -1,12 +1,12 @@
 //! Every algorithm in turn over one graph, divided in blocks, and its summary.
-ghost use Rattle.std.specs.Prelude.{◌≡◌, ◌≤◌, IfOk, None};
+ghost use Rattle.std.specs.Prelude.{◌≡◌, ℕ, ◌≤◌, IfOk, None, length};
 ghost use Rattle.pg_print.specs.Forests.{edges_at};
-ghost use Rattle.pg_print.specs.Summaries.{summary_text};
 ghost use Rattle.pg_agenda.specs.BucketPhases.{takes_by};
 ghost use Rattle.pg_base.specs.Distances.{AreLeastArcs};
+ghost use Rattle.pg_top.specs.declared.columns.Field.TheVariants.{Amount};
 ghost use Rattle.pg_top.specs.Answered.{text_in};
 ghost use Rattle.pg_top.specs.Paired.{IsPairCarried};
-ghost use Rattle.pg_top.specs.declared.columns.Field.TheVariants.{Amount};
+ghost use Rattle.pg_top.specs.Summary.{clash_count};
 ghost use Rattle.pg_top.specs.Text.{AreLeastWeights, AreLowest, IsLeastForest, IsSmallGrid, IsSummaryText};
 ghost use Rattle.pg_top.specs.Work.{HasColours, HasForest, IsCarried, IsSummarized};
 
@@ -44,28 +44,22 @@ fn in_blocks(alloc: Global, graph: &EdgeList) -> Result<Input, OutOfMemory>
     })
 }
 
-/// Runs a breadth-first search from the first vertex, components and least weights over the graph.
-fn search<W: Threads + Wait + Sync, G: Gate>(
+/// Finds the least weights from the first vertex of the graph, by buckets of this width.
+fn weigh<W: Threads + Wait + Sync, G: Gate>(
     token: &W,
     alloc: Global,
     graph: &EdgeList,
     delta: u32,
     crew: &Crew,
     gate: &G,
-) -> Result<(Searched, Relaxed<Weight, Buckets>), OutOfMemory>
+) -> Result<Relaxed<Weight, Buckets>, OutOfMemory>
     requires a_width { 1 ≤ delta }
-    ensures hops { IfOk result (λ r. AreLeastArcs graph.now 1 r.0.hops.of_vertices.items) }
-    ensures roots { IfOk result (λ r. AreLowest graph.now r.0.roots.of_vertices.items) }
-    ensures weights { IfOk result (λ r. AreLeastWeights graph.now 1 r.1.answers.of_vertices.items) }
-    ensures both { IfOk result (λ r. IsPairCarried 1 crew.now.ranks crew.now.capacity graph.now r.0.hops.of_vertices.items r.0.roots.of_vertices.items
-        r.0.finished.programs.items r.0.finished.lanes.items) }
+    ensures least { IfOk result (λ r. AreLeastWeights graph.now 1 r.answers.of_vertices.items) }
     ensures carried { IfOk result (λ r. IsCarried (record { source = 1 }) (takes_by delta) Amount None crew.now.ranks crew.now.capacity graph.now
-        r.1.answers.of_vertices.items r.1.finished.programs.items r.1.finished.lanes.items) }
+        r.answers.of_vertices.items r.finished.programs.items r.finished.lanes.items) }
 {
-    let searched = hops_and_roots(token, alloc, graph, FIRST, crew, gate)?;
     let input = in_blocks(alloc, graph)?;
-    let weighted = least_weights(token, alloc, input, FIRST, delta, crew, gate)?;
-    Ok((searched, weighted))
+    least_weights(token, alloc, input, FIRST, delta, crew, gate)
 }
 
 /// Finds the least spanning forest of the graph.
@@ -113,7 +107,8 @@ pub(crate) fn summarize<W: Threads + Wait + Sync, G: Gate>(
     ensures right { IfOk result (λ s. IsSummaryText graph (text_in s.answers)) }
     ensures work { IfOk result (λ s. IsSummarized delta crew.now.ranks crew.now.capacity graph (text_in s.answers) s.work) }
 {
-    let (searched, weighted) = search(token, alloc, &graph, delta, crew, gate)?;
+    let searched = hops_and_roots(token, alloc, &graph, FIRST, crew, gate)?;
+    let weighted = weigh(token, alloc, &graph, delta, crew, gate)?;
     let grown = span(token, alloc, &graph, crew, gate)?;
     let coloured = colour(token, alloc, &graph, crew, gate)?;
     Ok(told(&graph, searched, weighted, grown, coloured))
@@ -126,7 +121,23 @@ fn told(
     weighted: Relaxed<Weight, Buckets>,
     grown: Grown,
     coloured: Coloured,
-) -> Solved {
+) -> Solved
+    requires small { IsSmallGrid graph.now }
+    requires hops { AreLeastArcs graph.now 1 searched.hops.of_vertices.items }
+    requires weights { AreLeastWeights graph.now 1 weighted.answers.of_vertices.items }
+    requires roots { AreLowest graph.now searched.roots.of_vertices.items }
+    requires forest { IsLeastForest graph.now (edges_at grown.tree.graph.edges grown.tree.indices.items) }
+    requires colours { length coloured.colours.of_vertices.items ≡ graph.now.n }
+    requires apart { clash_count graph.now.edges coloured.colours.of_vertices.items ≡ 0 }
+    ensures right { IsSummaryText graph.now (text_in result.answers) }
+    ensures work { (delta ranks capacity : ℕ) →
+        IsPairCarried 1 ranks capacity graph.now searched.hops.of_vertices.items searched.roots.of_vertices.items searched.finished.programs.items searched.finished.lanes.items →
+        IsCarried (record { source = 1 }) (takes_by delta) Amount None ranks capacity graph.now weighted.answers.of_vertices.items weighted.finished.programs.items weighted.finished.lanes.items →
+        HasForest None ranks capacity graph.now (edges_at grown.tree.graph.edges grown.tree.indices.items) grown.finished.programs.items grown.finished.lanes.items →
+        HasColours None ranks capacity graph.now coloured.colours.of_vertices.items coloured.finished.programs.items coloured.finished.lanes.items →
+        IsSummarized delta ranks capacity graph.now (text_in result.answers) result.work }
+{
+    let _n = graph.n();
     let summary = summary(
         graph,
         &searched.hops.of_vertices,

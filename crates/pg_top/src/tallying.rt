@@ -1,18 +1,14 @@
 //! The numbers of a summary, counted from the answers.
-ghost use Rattle.std.specs.Prelude.{◌≡◌, ◌≤◌, All, length};
+ghost use Rattle.std.specs.Prelude.{◌≡◌, ◌<◌, ◌≤◌, All, length};
 ghost use Rattle.pg_base.specs.Forest.{total_weight};
 ghost use Rattle.pg_base.specs.Graph.{IsEdge};
 ghost use Rattle.pg_base.specs.declared.TheConstants.{MAX_EDGES, MAX_VERTICES};
 ghost use Rattle.pg_print.specs.Forests.{edges_at};
-ghost use Rattle.pg_top.specs.Summary.{clash_count, component_count, number_in, number_of, summary_of, tally_of};
-ghost use Rattle.pg_top.specs.declared.TheConstants.{MAX_DISTANCE};
+ghost use Rattle.pg_top.specs.Summary.{clash_count, component_count, max_distance, number_in, number_of, summary_of, tally_of};
 
 use crate::columns::Tree;
 use pg_base::{Edge, EdgeList};
 use pg_print::{Summary, Tally};
-
-/// No distance on a grid is greater: fewer than 1,048,576 arcs, each of a weight of at most 4,096.
-pub const MAX_DISTANCE: u64 = 4_294_967_296;
 
 /// The number of an answer, 0 where there is none.
 fn number_in(answer: Option<u64>) -> u64
@@ -24,7 +20,7 @@ fn number_in(answer: Option<u64>) -> u64
 /// How many distances there are, and the greatest and the sum of them.
 fn tally(distances: &[Option<u64>]) -> Tally
     requires few { length distances.now ≤ MAX_VERTICES }
-    requires short { All (λ d. number_in d ≤ MAX_DISTANCE) distances.now }
+    requires short { All (λ d. number_in d ≤ max_distance) distances.now }
     ensures { result ≡ tally_of distances.now }
 {
     let mut tally = Tally {
@@ -72,13 +68,14 @@ fn clashes(edges: &[Edge], colours: &[Option<u64>]) -> u32
     count
 }
 
-/// The sum of the weights of a tree's edges.
-fn total(tree: &Tree) -> u64
-    ensures { result ≡ total_weight (edges_at tree.now.graph.edges tree.now.indices.items) }
+/// The sum of the weights of the edges with these indices.
+fn total(edges: &[Edge], indices: &[u32]) -> u64
+    requires within { All (λ i. i < length edges.now) indices.now }
+    requires few { length indices.now ≤ MAX_EDGES }
+    ensures { result ≡ total_weight (edges_at edges.now indices.now) }
 {
-    let edges = tree.graph.edges();
     let mut total = 0_u64;
-    for index in &tree.indices {
+    for index in indices {
         total += u64::from(edges[*index as usize].w);
     }
     total
@@ -97,11 +94,12 @@ pub(crate) fn summary(
     requires weights { length weights.now ≡ graph.now.n }
     requires roots { length roots.now ≡ graph.now.n }
     requires colours { length colours.now ≡ graph.now.n }
-    requires short_hops { All (λ d. number_in d ≤ MAX_DISTANCE) hops.now }
-    requires short_weights { All (λ d. number_in d ≤ MAX_DISTANCE) weights.now }
+    requires short_hops { All (λ d. number_in d ≤ max_distance) hops.now }
+    requires short_weights { All (λ d. number_in d ≤ max_distance) weights.now }
     ensures { result ≡ summary_of graph.now hops.now weights.now roots.now (edges_at tree.now.graph.edges tree.now.indices.items) (clash_count graph.now.edges colours.now) }
 {
     let edges = graph.edges();
+    let candidates = tree.graph.edges();
     Summary {
         vertices: graph.n(),
         edges: edges.len() as u32,
@@ -109,7 +107,7 @@ pub(crate) fn summary(
         weights: tally(weights),
         components: components(roots),
         forest: tree.indices.len() as u32,
-        total: total(tree),
+        total: total(candidates, &tree.indices),
         clashes: clashes(edges, colours),
     }
 }
