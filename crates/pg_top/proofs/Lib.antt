@@ -18,3 +18,4 @@ pub mod OverBooks
 pub mod PairRuns
 pub mod GridLemmas
 pub mod SummaryTexts
+pub mod SummaryLemmas
