@@ -19,3 +19,4 @@ pub mod PairRuns
 pub mod GridLemmas
 pub mod SummaryTexts
 pub mod SummaryLemmas
+pub mod GridWork
