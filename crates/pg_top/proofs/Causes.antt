@@ -72,7 +72,7 @@ no_text spoken files plan text fault P tells odd (other, planned, h) =
     let a = tells.planned in
     let same : other ≡ plan = cc in
     let found = HasGraph-at plan.file files text (λ g. HasOwners plan.parts files g.n plan.ranks (λ owners. (written : List ℕ) × IsTextOf plan g written × P written)) tells.contents
-        (files_of_input plan.algorithm plan files (λ g owners. (written : List ℕ) × IsTextOf plan g written × P written) tells.reads (subst (λ (m : Meaning). HasText m files P) same h)) in
+    (files_of_input plan.algorithm plan files (λ g owners. (written : List ℕ) × IsTextOf plan g written × P written) tells.reads (subst (λ (m : Meaning). HasText m files P) same h)) in
     not_both text found.0 fault found.1 odd
 
 module _ (spoken : List (List ℕ)) (files : Option (List NamedBytes)) (plan : Meaning) (text : List ℕ) (tells : Tells spoken files plan text) where
@@ -212,8 +212,8 @@ module _ (spoken : List (List ℕ)) (files : Option (List NamedBytes)) (t : Trac
       let one : plan ≡ other = cc in
       let out = grid_of_input other.algorithm other files (λ g owners. IsOutside other g.n) (ap (λ (m : Meaning). m.algorithm) (sym one) ∙ is) h in
       absurd (no_source other.algorithm (ap (λ (m : Meaning). m.algorithm) (sym one) ∙ is) out.sourced) where
-    no_source : (a : Algorithm) → a ≡ Grid → has_source a ≡ true → ⊥
-    no_source a same sourced = let none : false ≡ true = ap has_source (sym same) ∙ sourced in cc
+        no_source : (a : Algorithm) → a ≡ Grid → has_source a ≡ true → ⊥
+        no_source a same sourced = let none : false ≡ true = ap has_source (sym same) ∙ sourced in cc
   complete_grid unwritten Read h = absurd (reads_none (λ m. Rose t.inputs_before t.inputs_after ⊎ MissesFile m files) h)
   complete_grid unwritten Write (other, there, (rose, h)) = absurd (unwritten rose)
   complete_grid unwritten Memory h = inr refl

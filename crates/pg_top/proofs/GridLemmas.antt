@@ -1,13 +1,13 @@
 -- What holds of the answers on a grid: no distance is far, and no edge has ends of one colour.
-use Rattle.std.proofs.Common.{◌≡◌, ◌≢◌, ◌∙◌, ℕ, zero, suc, ◌+◌, ◌-◌, ◌*◌, ◌<◌, ◌≤◌, ◌==◌, Bool, true, false, cond, inl, inr, Option, Some, None, List, [], ◌∷◌, map, length, get_or, ap, sym, subst, refl, arith, All, Contains}
-use Rattle.std.specs.Prelude.{count_by, sum_by}
+use Rattle.std.proofs.Common.{◌≡◌, ◌≢◌, ◌∙◌, ℕ, zero, suc, ◌+◌, ◌-◌, ◌*◌, ◌<◌, ◌≤◌, ◌==◌, cond, inl, inr, Option, Some, None, List, [], ◌∷◌, map, length, get_or, ap, sym, subst, refl, arith, All, Contains}
+use Rattle.std.specs.Prelude.{count_by}
 use Rattle.std.proofs.lemmas.Bool.{ne_eqb}
 use Rattle.std.proofs.lemmas.List.Elements.{All-contains, Contains-get_or}
 use Rattle.std.proofs.lemmas.List.Sums.{sum_by-cons, sum_by-le}
 use Rattle.pg_base.specs.declared.edges.Edge.{Edge}
 use Rattle.pg_base.specs.Colouring.{AreProper, colour_in}
 use Rattle.pg_base.specs.Distances.{AreLeastArcs}
-use Rattle.pg_base.specs.Graph.{Arc, Graph, IsGraph, arcs_of, backward, forward}
+use Rattle.pg_base.specs.Graph.{Arc, Graph, IsGraph, arcs_of}
 use Rattle.pg_base.specs.Walk.{IsWalk, LeastArcs, LeastWeight, weight_of}
 use Rattle.pg_base.proofs.ArcLemmas.{arc_is_within, edge_of_arc}
 use Rattle.pg_forest.proofs.Shorten.{short_walks_end, walks_shorten}

@@ -1,11 +1,9 @@
 -- What the summary of a graph of one vertex is.
-use Rattle.std.proofs.Common.{◌≡◌, ℕ, zero, suc, ◌+◌, ◌<◌, Option, Some, None, List, [], ◌∷◌, get_or, refl, ap, arith, All}
+use Rattle.std.proofs.Common.{◌≡◌, ℕ, zero, suc, ◌+◌, ◌<◌, Option, Some, None, List, [], ◌∷◌, get_or, refl, ap, arith}
 use Rattle.std.specs.Prelude.{codes}
 use Rattle.std.specs.Fmt.{digits}
-use Rattle.pg_base.specs.declared.edges.Edge.{Edge}
 use Rattle.pg_base.specs.Examples.{graph}
 use Rattle.pg_base.specs.Forest.{IsForest}
-use Rattle.pg_base.specs.Graph.{Arc}
 use Rattle.pg_base.specs.Walk.{LeastArcs, LeastWeight}
 use Rattle.pg_base.proofs.WalkLemmas.{least_arcs_by, least_weight_by, lowest_by}
 use Rattle.pg_words.specs.declared.plans.Algorithm.TheVariants.{Grid}

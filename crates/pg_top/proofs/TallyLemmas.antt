@@ -1,13 +1,13 @@
 -- The counts of a summary, one entry more.
-use Rattle.std.proofs.Common.{◌≡◌, ◌∙◌, ℕ, zero, suc, ◌+◌, ◌-◌, ◌*◌, ◌<◌, ◌≤◌, ◌==◌, Bool, true, false, cond, Option, Some, None, List, [], ◌∷◌, take, length, get_or, ap, sym, subst, refl, arith, is_some, All}
-use Rattle.std.specs.Prelude.{count_by, max, sum_by, unwrap_or}
-use Rattle.std.specs.List.{fold, range_with_len}
+use Rattle.std.proofs.Common.{◌≡◌, ◌∙◌, ℕ, zero, suc, ◌+◌, ◌-◌, ◌*◌, ◌<◌, ◌≤◌, ◌==◌, Bool, cond, Option, Some, None, List, [], ◌∷◌, take, length, get_or, ap, sym, refl, arith, is_some}
+use Rattle.std.specs.Prelude.{count_by, max, sum_by}
+use Rattle.std.specs.List.{range_with_len}
 use Rattle.std.proofs.lemmas.List.Sums.{count_by_more_no, count_by_more_yes, fold_more, sum_by_more}
 use Rattle.std.proofs.lemmas.Bool.{eq-eqb, ne_eqb}
 use Rattle.std.proofs.lemmas.List.{take_all}
 use Rattle.std.proofs.lemmas.List.FromFn.{get_or-range_with_len, length-range_with_len}
 use Rattle.pg_print.specs.declared.summaries.Tally.{Tally}
-use Rattle.pg_top.specs.Summary.{component_count, greatest, number_in, number_of, tally_of}
+use Rattle.pg_top.specs.Summary.{component_count, greatest, number_in, number_of}
 
 -- An entry that is there is one for any other default.
 pub same_entry : (answers : List (Option ℕ)) (k : ℕ) (d : Option ℕ) → k < length answers → get_or answers k None ≡ get_or answers k d

@@ -1,6 +1,6 @@
 -- The numbers of a summary, counted from the answers of the algorithms. The answer of vertex v stands at place v - 1; an absent
 -- one counts as 0.
-use Rattle.std.specs.Prelude.{ℕ, ◌+◌, ◌-◌, ◌==◌, Option, None, is_some, unwrap_or, max, List, length, count_by, sum_by, slice_index_or}
+use Rattle.std.specs.Prelude.{ℕ, ◌-◌, ◌==◌, Option, None, is_some, unwrap_or, max, List, length, count_by, sum_by, slice_index_or}
 use Rattle.std.specs.List.{fold, range_with_len}
 use Rattle.pg_base.specs.declared.edges.Edge.{Edge}
 use Rattle.pg_base.specs.Forest.{total_weight}

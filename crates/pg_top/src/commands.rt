@@ -150,19 +150,22 @@ fn run<W: Threads + Wait + Sync, I: Inputs, S: Sink, G: Gate>(
 
 /// Runs the program: the words after its name, a source of files, standard output and standard error.
 ///
-/// With status `Ok`, `out` grew by exactly the text of the words' plan for the graph of which the plan's file is
-/// one. This is a line for each vertex from 1 to n: for `bfs` the least number of arcs of a walk from the source, for
-/// `sssp` the least weight of one, `-` where no walk leads there, and for `components` the least vertex that a
-/// walk joins to it. For `forest` it is a line `u v w` for each edge of the least spanning forest, ascending, ties in
-/// weight going by (u, v), and then `total T` with the sum of the weights; no edges that span weigh less. The text is
-/// the same for every number of ranks and threads, every capacity of lanes and every partition file. With every other status one line that tells the fault was written to `errs`, whose own faults change
-/// nothing.
+/// With status `Ok`, `out` grew by exactly the text of the words' plan for its graph: that of which the plan's file is one,
+/// or the grid that the words describe. This is a line for each vertex from 1 to n: for `bfs` the least number of arcs of a
+/// walk from the source, for `sssp` the least weight of one, `-` where no walk leads there, for `components` the least
+/// vertex that a walk joins to it, and for `colour` a colour from 0, at most its degree, that no neighbour has, on one rank
+/// the colour of first fit. For `forest` it is a line `u v w` for each edge of the least spanning forest, ascending, ties in
+/// weight going by (u, v), and then `total T` with the sum of the weights; no edges that span weigh less. For `grid` it is
+/// seven lines with numbers that are counted from what the algorithms answer, distances from vertex 1; the last one tells
+/// that no edge has ends of one colour. But for colours the text is the same for every number of ranks and threads, every
+/// capacity of lanes and every partition file. With every other status one line that tells the fault was written to `errs`,
+/// whose own faults change nothing.
 ///
 /// The first fault that is met is answered, in this order: the words (`BadWords`), beginning and reading the
 /// graph file (`ReadFault`, `BadGraph`), beginning and reading the partition file (`ReadFault`, `BadParts`), the source
 /// (`BadSource`), the writing (`WriteFault`, after a front of the text). Want of memory (`NoMemory`) may come
 /// before the first write to `out`. Nothing is written to `out` with any status but `Ok` and `WriteFault`. Where the
-/// words have no plan no name is begun and nothing is read.
+/// words have no plan, and for a grid, no name is begun and nothing is read.
 ///
 /// With `Ok` and `WriteFault` the final programs and the settled lanes of this very run are handed back, which hold what
 /// the text spells.

@@ -10,6 +10,7 @@ ghost use Rattle.pg_top.specs.Summary.{clash_count};
 ghost use Rattle.pg_top.specs.Text.{AreLeastWeights, AreLowest, IsLeastForest, IsSmallGrid, IsSummaryText};
 ghost use Rattle.pg_top.specs.Work.{HasColours, HasForest, IsCarried, IsSummarized};
 
+use crate::Work;
 use crate::answers::Answers;
 use crate::colours::{Coloured, proper_colours};
 use crate::crews::Crew;
@@ -18,7 +19,6 @@ use crate::inputs::Input;
 use crate::pairs::{Searched, hops_and_roots};
 use crate::solving::{Relaxed, Solved, least_weights};
 use crate::tallying::summary;
-use crate::Work;
 use pg_agenda::Buckets;
 use pg_base::{EdgeList, Gate, OutOfMemory};
 use pg_label::Weight;

@@ -708,7 +708,8 @@ fn two_threads_drive_two_ranks_side_by_side(rt: HostRuntime) -> Result<(), Fail>
 
 /// The summary of the grid of two columns and two rows by the seed 7, whose edges 1 2, 1 3, 2 4 and 3 4 weigh 2,446, 1,226,
 /// 1,359 and 2,835.
-const SUMMARY: &str = "vertices 4\nedges 4\nhops 4 2 4\nweights 4 3805 7477\ncomponents 1\nforest 3 5031\nclashes 0\n";
+const SUMMARY: &str =
+    "vertices 4\nedges 4\nhops 4 2 4\nweights 4 3805 7477\ncomponents 1\nforest 3 5031\nclashes 0\n";
 
 /// Runs the words of a line with nothing to read, and with these writes failing.
 fn make<W: Threads + Wait + Sync + AllocGlobal>(
@@ -739,7 +740,9 @@ fn a_grid_is_summed_up_the_same_by_any_number_of_ranks(rt: HostRuntime) -> Resul
 }
 
 #[test]
-fn a_larger_grid_is_summed_up_the_same_on_one_rank_and_on_four(rt: HostRuntime) -> Result<(), Fail> {
+fn a_larger_grid_is_summed_up_the_same_on_one_rank_and_on_four(
+    rt: HostRuntime,
+) -> Result<(), Fail> {
     let alloc = rt.alloc();
     let one = make(&rt, "grid --width 9 --height 7 --seed 3 ", Vec::new(alloc))?;
     let four = make(
@@ -755,9 +758,14 @@ fn a_larger_grid_is_summed_up_the_same_on_one_rank_and_on_four(rt: HostRuntime) 
 #[test]
 fn a_grid_of_one_vertex_has_no_edges(rt: HostRuntime) -> Result<(), Fail> {
     let alloc = rt.alloc();
-    let seen = make(&rt, "grid --width 1 --height 1 --seed 0 --ranks 3 ", Vec::new(alloc))?;
+    let seen = make(
+        &rt,
+        "grid --width 1 --height 1 --seed 0 --ranks 3 ",
+        Vec::new(alloc),
+    )?;
     assert_eq!(rt; seen.status, Status::Ok);
-    let text = "vertices 1\nedges 0\nhops 1 0 0\nweights 1 0 0\ncomponents 1\nforest 0 0\nclashes 0\n";
+    let text =
+        "vertices 1\nedges 0\nhops 1 0 0\nweights 1 0 0\ncomponents 1\nforest 0 0\nclashes 0\n";
     assert_eq!(rt; seen.out.text(), text.as_bytes());
     Ok(())
 }

@@ -1,8 +1,7 @@
-use Rattle.std.proofs.Common.{ℕ, Option, List, All, ◌≡◌, ◌≤◌, ap, sym, subst}
-use Rattle.pg_base.specs.declared.edges.Edge.{Edge}
+use Rattle.std.proofs.Common.{ℕ, Option, List, All, ◌≤◌, ap, sym, subst}
 use Rattle.pg_print.specs.Forests.{edges_at}
 use Rattle.pg_print.specs.Summaries.{summary_text}
-use Rattle.pg_top.specs.Summary.{clash_count, max_distance, number_in, summary_of}
+use Rattle.pg_top.specs.Summary.{max_distance, number_in}
 use Rattle.pg_top.proofs.GridLemmas.{hops_are_short, weights_are_low}
 use Rattle.pg_top.proofs.SummaryLemmas.{counted_alike, is_summary}
 use Rattle.pg_top.proofs.gridding.told.Goals as goal
