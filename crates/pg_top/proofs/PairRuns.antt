@@ -88,11 +88,11 @@ module _ {P B L A : Type 0} {l : LabelGhosts L} {a : AgendaGhosts A} (p : Progra
       let many : length openings ≡ s.ranks = sym (length_of_map member openings) ∙ open_count label s g (map member openings) opens in
       let kept : (rank : ℕ) (x start : Relax L A l a) → slice_get (map member programs) rank ≡ Some x → slice_get (map member openings) rank ≡ Some start
       → HasRelaxed s.ranks rank (part book.last sent) (part book.last taken) start x = λ rank x start at there.
-          let now = entry_from_map member programs rank x at in
-          let was = entry_from_map member openings rank start there in
-          relaxed_from s.ranks rank (part book.last sent) (part book.last taken) (member (slice_index_or openings rank d)) start (member (slice_index_or programs rank d)) x
-          (book.ended rank (omega (arith, slice_get_within programs rank now.0 now.1, count)))
-          (ap member (got openings rank was.0 d was.1) ∙ was.2) (ap member (got programs rank now.0 d now.1) ∙ now.2) in
+      let now = entry_from_map member programs rank x at in
+      let was = entry_from_map member openings rank start there in
+      relaxed_from s.ranks rank (part book.last sent) (part book.last taken) (member (slice_index_or openings rank d)) start (member (slice_index_or programs rank d)) x
+      (book.ended rank (omega (arith, slice_get_within programs rank now.0 now.1, count)))
+      (ap member (got openings rank was.0 d was.1) ∙ was.2) (ap member (got programs rank now.0 d now.1) ∙ now.2) in
       record {
         openings = map member openings;
         opens = opens;

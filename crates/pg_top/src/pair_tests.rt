@@ -35,9 +35,7 @@ fn search<W: Threads + Wait + Sync + AllocGlobal>(
 }
 
 #[test]
-fn one_run_finds_the_least_numbers_of_arcs_and_the_components(
-    rt: HostRuntime,
-) -> Result<(), Fail> {
+fn one_run_finds_the_least_numbers_of_arcs_and_the_components(rt: HostRuntime) -> Result<(), Fail> {
     for (ranks, capacity) in [(1, 1), (2, 1), (2, 64), (3, 2), (7, 1)] {
         let searched = search(&rt, ranks, capacity)?;
         let hops = [Some(0), Some(1), Some(2), None, None];
