@@ -1,11 +1,11 @@
-use Rattle.std.proofs.Common.{◌≡◌, ◌∙◌, ◌-◌, ◌≤◌, Some, length, sym, ap, arith}
+use Rattle.std.proofs.Common.{◌∙◌, ◌-◌, length, sym, ap, arith}
 use Rattle.std.specs.Prelude.{slice_get}
 use Rattle.pg_group.specs.Ranked.{place_of}
 use Rattle.pg_lane.specs.Settled.{settled_capacity}
 use Rattle.pg_dist.specs.Sharing.{Sharing}
 use Rattle.pg_run.specs.Lanes.{sent_on, taken_on}
 use Rattle.pg_run.specs.Machines.{machines_of, opening_of}
-use Rattle.pg_top.proofs.PairRuns.{HasLeft, are_paired, ended_at}
+use Rattle.pg_top.proofs.PairRuns.{are_paired, ended_at}
 use Rattle.pg_top.proofs.RunLemmas.{entry_below, replicate_entry}
 use Rattle.pg_top.proofs.pairs.run_pairs.Goals as goal
 
