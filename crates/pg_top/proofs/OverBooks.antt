@@ -1,8 +1,11 @@
 -- Relaxations that have ended over a book hold the best values: by hops the least numbers of arcs, by root the lowest vertices.
-use Rattle.std.proofs.Common.{◌≡◌, ℕ, ◌+◌, ◌^◌, ◌<◌, ◌≤◌, List, length, sym, ap, ◌∙◌, subst, arith, Option, Some, All}
+use Rattle.std.proofs.Common.{◌≡◌, ℕ, ◌+◌, ◌^◌, ◌<◌, ◌≤◌, List, length, sym, ap, ◌∙◌, subst, arith, Option, Some, None, All}
 use Rattle.std.specs.Prelude.{option_and_then, slice_get, slice_index_or}
 use Rattle.std.proofs.lemmas.List.Elements.{All-contains}
 use Rattle.std.proofs.lemmas.Option.{slice_get_within}
+use Rattle.pg_lane.specs.declared.settling.Settled.{Settled}
+use Rattle.pg_group.specs.declared.messages.Envelope.{Envelope}
+use Rattle.pg_run.specs.Lanes.{sent_on, taken_on}
 use Rattle.pg_base.specs.Graph.{Graph, IsGraph, Arc, arcs_of}
 use Rattle.pg_base.specs.Walk.{LeastArcs}
 use Rattle.pg_base.specs.Distances.{AreLeastArcs}
@@ -31,9 +34,10 @@ use Rattle.pg_relax.specs.Kept.{HasRelaxed}
 use Rattle.pg_relax.specs.Whole.{State, AreDivided, HasRelaxedOver}
 use Rattle.pg_relax.proofs.DivisionLemmas.{divided_parts, arcs_join}
 use Rattle.pg_relax.proofs.WholeLemmas.{whole_is_best, whole_is_relaxed}
+use Rattle.pg_top.specs.declared.columns.Field.{Field}
 use Rattle.pg_top.specs.declared.columns.Field.TheVariants.{Amount, Class}
 use Rattle.pg_top.specs.Paired.{IsRelaxedOver}
-use Rattle.pg_top.specs.Relaxed.{AreAnswers, HavePlaces, class_in, value_of}
+use Rattle.pg_top.specs.Relaxed.{AreAnswers, HavePlaces, IsRelaxation, class_in, field_in, value_of}
 use Rattle.pg_top.specs.Text.{AreLowest, IsRootOf}
 use Rattle.pg_top.proofs.BestLemmas.{divided_alike, got}
 use Rattle.pg_top.proofs.RunLemmas.{entry_below}
@@ -116,6 +120,37 @@ module _ {L A : Type 0} {l : LabelGhosts L} {a : AgendaGhosts A} {takes : Places
         let q = here (s.owner arc.from) (laws.owner_is_rank arc.from ends.from.first (omega (arith, ends.from.last, same))) in
         whole_is_relaxed (label_of (l.start label) (l.add label)) g.n s.ranks (arcs_of g.edges) s.owner s.local (states_by q.0) sent taken
         (divided_among q.0) run.book run.marks (kept_by q.0) arc x given apart (sym (value_by q.0 arc.from ends.from.first ends.from.last) ∙ has) within
+
+-- A relaxation over lanes is one over the book that they hold.
+module _ {L A : Type 0} {l : LabelGhosts L} {a : AgendaGhosts A} {takes : Places} (label : L) (s : Sharing) (laws : IsSharing s) (g : Graph) (capacity : ℕ)
+    (programs : List (Relax L A l a)) (lanes : List (Settled (Envelope Offer))) (run : IsRelaxation label takes s g capacity programs lanes) where
+  on_lanes : IsRelaxedOver label takes s g (sent_on s.ranks lanes) (taken_on s.ranks lanes) programs
+  on_lanes = record {
+    openings = run.run.openings;
+    opens = record { parts = run.parts; divided = run.divided; opened = run.run.opened; new = run.run.new; labels = run.run.labels; shares = run.run.shares };
+    shares = run.run.final_shares;
+    count = run.run.count;
+    book = run.run.book;
+    marks = run.run.marks;
+    kept = run.run.kept;
+  }
+
+  -- the places of its vertices
+  pub places_of : HavePlaces s programs
+  places_of = places_over label s laws g (sent_on s.ranks lanes) (taken_on s.ranks lanes) programs on_lanes
+
+  module _ (is : IsGraph g) (same : g.n ≡ s.n) (costs : All (λ (b : Arc). l.add label b.weight < 2 ^ 32) (arcs_of g.edges)) where
+    pub lanes_are_relaxed : Relaxed (label_of (l.start label) (l.add label)) (arcs_of g.edges) s.owner s.local (value_of s programs) (sent_on s.ranks lanes)
+    lanes_are_relaxed = relaxed_over label s laws g (sent_on s.ranks lanes) (taken_on s.ranks lanes) programs on_lanes is same costs
+
+    -- The numbers that are answered are those of the best values.
+    pub answered : (field : Field) (answers : List (Option ℕ)) → AreAnswers field s programs answers → (v : ℕ) → v < g.n
+        → (value : Option Value) × Best (label_of (l.start label) (l.add label)) (arcs_of g.edges) (v + 1) value × (slice_index_or answers v None ≡ field_in field value)
+    answered field answers are v h = (
+      value_of s programs (v + 1),
+      best_over label s laws g (sent_on s.ranks lanes) (taken_on s.ranks lanes) programs on_lanes is same costs (v + 1) (omega arith) (omega (arith, h)),
+      are.each v (omega (arith, h, same)),
+    )
 
 -- arcs that cost one each cost little
 cheap : (arcs : List Arc) → All (λ (b : Arc). 1 < 2 ^ 32) arcs
