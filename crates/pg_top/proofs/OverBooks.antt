@@ -14,6 +14,7 @@ use Rattle.pg_group.proofs.Growing.{entry_map}
 use Rattle.pg_group.proofs.ByRank.{length_of_map}
 use Rattle.pg_dist.specs.Sharing.{Sharing, IsSharing}
 use Rattle.pg_adj.specs.Portions.{Portion}
+use Rattle.pg_label.specs.declared.values.Value.{Value}
 use Rattle.pg_label.specs.declared.labels.Label.{Ghosts as LabelGhosts}
 use Rattle.pg_label.specs.declared.labels.Hops.{Hops}
 use Rattle.pg_label.specs.declared.labels.Root.{Root}
