@@ -26,7 +26,7 @@ use Rattle.pg_print.specs.Columns.{column_text}
 use Rattle.pg_top.specs.Coloured.{AreHeld, HavePlaces, IsColouring, SeeOwners, held_colour}
 use Rattle.pg_top.specs.Relaxed.{AreInOrder}
 use Rattle.pg_top.specs.Text.{AreColours, IsColourText}
-use Rattle.pg_top.specs.Work.{IsColouredBy, SpellsColours}
+use Rattle.pg_top.specs.Work.{HasColours, IsColouredBy, SpellsColours}
 use Rattle.pg_top.proofs.BestLemmas.{got}
 use Rattle.pg_top.proofs.RightLemmas.{distribution_n, distribution_ranks}
 use Rattle.pg_top.proofs.RunLemmas.{entry_below}
@@ -224,6 +224,15 @@ module _ (owners : Option (List ℕ)) (ranks capacity : ℕ) (g : Graph) (answer
       proper = proper_alike g is cell (listed (known answers)) cell_is (cells_are_proper c.sharing g capacity programs lanes c.colouring c.laws is n_is first.0);
     };
     first_fit = λ one. first_fit_alike g is cell (listed (known answers)) cell_is (cells_are_first_fit c.sharing g capacity programs lanes c.colouring c.laws is n_is first.0 (ranks_are ∙ one));
+  }
+
+  pub colours_are_had : HasColours owners ranks capacity g answers programs lanes
+  colours_are_had = record {
+    colours = known answers;
+    listed = sym same_answers;
+    right = are_colours;
+    coloured = c;
+    ghosts = owners_are_seen c.sharing g capacity programs lanes c.colouring c.laws is n_is first.0;
   }
 
   pub colours_are_right : IsColourText ranks g (column_text answers)

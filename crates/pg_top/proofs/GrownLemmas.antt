@@ -29,7 +29,7 @@ use Rattle.pg_boruvka.proofs.Ending.{whole_is_forest}
 use Rattle.pg_top.specs.Grown.{IsGrowth}
 use Rattle.pg_top.specs.Relaxed.{AreInOrder}
 use Rattle.pg_top.specs.Text.{IsForestText, IsLeastForest}
-use Rattle.pg_top.specs.Work.{IsGrownBy, SpellsForest}
+use Rattle.pg_top.specs.Work.{HasForest, IsGrownBy, SpellsForest}
 use Rattle.pg_top.proofs.BestLemmas.{got}
 use Rattle.pg_top.proofs.RightLemmas.{distribution_n, distribution_ranks}
 use Rattle.pg_top.proofs.RunLemmas.{entry_below}
@@ -147,6 +147,17 @@ module _ (owners : Option (List ℕ)) (ranks capacity : ℕ) (g : Graph) (progra
     module _ (is : IsGraph g) (light : All (λ (e : Edge). e.w ≤ MAX_WEIGHT) g.edges) where
       n_is : g.n ≡ grown.sharing.n
       n_is = sym (distribution_n owners g.n ranks grown.sharing grown.distribution)
+
+      pub first_is_least : IsLeastForest g (edges_at g.edges indices)
+      first_is_least =
+          let forest = each_is_forest grown.sharing g capacity programs lanes grown.growth grown.laws is n_is light 0 first at in
+          least_from_forest g (edges_at g.edges indices) (subst (λ (list : List ℕ). IsForest g.edges (edges_at g.edges list)) (sym same) forest)
+
+      pub first_is_held : HasForest owners ranks capacity g (edges_at g.edges indices) programs lanes
+      first_is_held = record {
+        grown = grown;
+        held = λ r p there. all_are_one grown.sharing g capacity programs lanes grown.growth grown.laws is n_is light r 0 p first there at ∙ ap (edges_at g.edges) (sym same);
+      }
 
       pub first_is_right : IsForestText g (forest_text (edges_at g.edges indices))
       first_is_right =

@@ -1,5 +1,5 @@
 -- What holds of the files of a plan, and of the texts that are told under their names.
-use Rattle.std.proofs.Common.{◌≡◌, ℕ, Option, Some, None, List, ap, subst}
+use Rattle.std.proofs.Common.{◌≡◌, ℕ, Option, Some, None, List, ap, refl, sym, subst}
 use Rattle.pg_base.specs.Graph.{Graph}
 use Rattle.pg_outside.specs.Files.{NamedBytes, IsMissing}
 use Rattle.pg_metis.specs.File.{FileOf}
@@ -8,8 +8,11 @@ use Rattle.pg_metis.specs.Parts.{FirstPartsFault, PartsOf, parts_fault_of}
 use Rattle.pg_metis.proofs.FaultLaws.{files_have_no_fault}
 use Rattle.pg_metis.proofs.OneGraph.{files_are_of_one_graph}
 use Rattle.pg_metis.proofs.PartsLemmas.{parts_files_have_no_fault}
+use Rattle.pg_make.specs.Grid.{grid_of}
 use Rattle.pg_words.specs.Plan.{Meaning}
-use Rattle.pg_top.specs.Files.{FileHolds, HasGraph, HasInput, HasList, HasOwners, IsFileOf, IsListOf, IsMissingParts, PartsHold, TellsOwners, told}
+use Rattle.pg_words.specs.declared.plans.Algorithm.{Algorithm}
+use Rattle.pg_words.specs.declared.plans.Algorithm.TheVariants.{Bfs, Sssp, Components, Forest, Colour, Grid}
+use Rattle.pg_top.specs.Files.{FileHolds, HasGraph, HasInput, HasInputOf, HasList, HasOwners, IsFileOf, IsListOf, IsMissingParts, PartsHold, ReadsFiles, TellsOwners, told}
 
 -- ---- weaker facts
 
@@ -30,11 +33,54 @@ HasOwners-weaker : (parts : Option (List ℕ)) (files : Option (List NamedBytes)
 HasOwners-weaker None files n ranks P Q f h = f None h
 HasOwners-weaker (Some name) files n ranks P Q f h = HasList-weaker name files n ranks (λ owners. P (Some owners)) (λ owners. Q (Some owners)) (λ owners p. f (Some owners) p) h
 
-pub HasInput-weaker : (plan : Meaning) (files : Option (List NamedBytes)) (P Q : Graph → Option (List ℕ) → Type 0) → ((g : Graph) (owners : Option (List ℕ)) → P g owners → Q g owners)
-    → HasInput plan files P → HasInput plan files Q
-HasInput-weaker plan files P Q f h =
+-- ---- what is read and what is made
+
+-- What holds of the input of an algorithm that reads files holds of its files.
+pub files_of_input : (a : Algorithm) (plan : Meaning) (files : Option (List NamedBytes)) (P : Graph → Option (List ℕ) → Type 0) → ReadsFiles a
+    → HasInputOf a plan files P → HasGraph plan.file files (λ g. HasOwners plan.parts files g.n plan.ranks (P g))
+files_of_input Bfs plan files P reads h = h
+files_of_input Sssp plan files P reads h = h
+files_of_input Components plan files P reads h = h
+files_of_input Forest plan files P reads h = h
+files_of_input Colour plan files P reads h = h
+files_of_input Grid plan files P reads h = absurd (reads refl)
+
+pub input_of_files : (a : Algorithm) (plan : Meaning) (files : Option (List NamedBytes)) (P : Graph → Option (List ℕ) → Type 0) → ReadsFiles a
+    → HasGraph plan.file files (λ g. HasOwners plan.parts files g.n plan.ranks (P g)) → HasInputOf a plan files P
+input_of_files Bfs plan files P reads h = h
+input_of_files Sssp plan files P reads h = h
+input_of_files Components plan files P reads h = h
+input_of_files Forest plan files P reads h = h
+input_of_files Colour plan files P reads h = h
+input_of_files Grid plan files P reads h = absurd (reads refl)
+
+-- What holds of the grid holds of the input of an algorithm that makes it.
+pub input_of_grid : (a : Algorithm) (plan : Meaning) (files : Option (List NamedBytes)) (P : Graph → Option (List ℕ) → Type 0) → a ≡ Grid
+    → P (grid_of plan.width plan.height plan.seed) None → HasInputOf a plan files P
+input_of_grid a plan files P is h = subst (λ (x : Algorithm). HasInputOf x plan files P) (sym is) h
+
+pub grid_of_input : (a : Algorithm) (plan : Meaning) (files : Option (List NamedBytes)) (P : Graph → Option (List ℕ) → Type 0) → a ≡ Grid
+    → HasInputOf a plan files P → P (grid_of plan.width plan.height plan.seed) None
+grid_of_input a plan files P is h = subst (λ (x : Algorithm). HasInputOf x plan files P) is h
+
+read-weaker : (plan : Meaning) (files : Option (List NamedBytes)) (P Q : Graph → Option (List ℕ) → Type 0) → ((g : Graph) (owners : Option (List ℕ)) → P g owners → Q g owners)
+    → HasGraph plan.file files (λ g. HasOwners plan.parts files g.n plan.ranks (P g)) → HasGraph plan.file files (λ g. HasOwners plan.parts files g.n plan.ranks (Q g))
+read-weaker plan files P Q f h =
     HasGraph-weaker plan.file files (λ g. HasOwners plan.parts files g.n plan.ranks (P g)) (λ g. HasOwners plan.parts files g.n plan.ranks (Q g))
     (λ g p. HasOwners-weaker plan.parts files g.n plan.ranks (P g) (Q g) (f g) p) h
+
+HasInputOf-weaker : (a : Algorithm) (plan : Meaning) (files : Option (List NamedBytes)) (P Q : Graph → Option (List ℕ) → Type 0) → ((g : Graph) (owners : Option (List ℕ)) → P g owners → Q g owners)
+    → HasInputOf a plan files P → HasInputOf a plan files Q
+HasInputOf-weaker Bfs plan files P Q f h = read-weaker plan files P Q f h
+HasInputOf-weaker Sssp plan files P Q f h = read-weaker plan files P Q f h
+HasInputOf-weaker Components plan files P Q f h = read-weaker plan files P Q f h
+HasInputOf-weaker Forest plan files P Q f h = read-weaker plan files P Q f h
+HasInputOf-weaker Colour plan files P Q f h = read-weaker plan files P Q f h
+HasInputOf-weaker Grid plan files P Q f h = f (grid_of plan.width plan.height plan.seed) None h
+
+pub HasInput-weaker : (plan : Meaning) (files : Option (List NamedBytes)) (P Q : Graph → Option (List ℕ) → Type 0) → ((g : Graph) (owners : Option (List ℕ)) → P g owners → Q g owners)
+    → HasInput plan files P → HasInput plan files Q
+HasInput-weaker plan files P Q f h = HasInputOf-weaker plan.algorithm plan files P Q f h
 
 -- ---- told texts
 

@@ -2,6 +2,7 @@ pub mod OneText
 pub mod SearchTexts
 pub mod TreeTexts
 pub mod Steps
+pub mod TallyLemmas
 pub mod RunLemmas
 pub mod BestLemmas
 pub mod Outcomes
@@ -13,3 +14,9 @@ pub mod Causes
 pub mod ColourLemmas
 pub mod EdgesBelow
 pub mod GrownLemmas
+pub mod OverBooks
+pub mod PairRuns
+pub mod GridLemmas
+pub mod SummaryTexts
+pub mod SummaryLemmas
+pub mod GridWork

@@ -2,15 +2,18 @@
 use Rattle.std.proofs.Common.{◌≡◌, ℕ, zero, suc, ◌+◌, ◌-◌, ◌<◌, ◌≤◌, inl, inr, Option, Some, None, List, [], ◌∷◌, length, map, get_or, refl, sym, ◌∙◌, ap, subst, arith}
 use Rattle.std.proofs.lemmas.Bool.{cases_lt}
 use Rattle.pg_base.specs.Graph.{Graph, arcs_of}
+use Rattle.pg_base.specs.declared.edges.Edge.{Edge}
 use Rattle.pg_base.specs.Walk.{weight_of}
 use Rattle.pg_base.specs.Colouring.{IsFirstFit, colour_in}
 use Rattle.pg_base.proofs.WalkLemmas.{least_is_one, lowest_is_one}
 use Rattle.pg_forest.proofs.WholeForests.{forest_is_one}
 use Rattle.pg_print.specs.Columns.{column_text}
 use Rattle.pg_print.specs.Forests.{forest_text}
+use Rattle.pg_print.specs.Summaries.{summary_text}
 use Rattle.pg_words.specs.declared.plans.Algorithm.{Algorithm}
 use Rattle.pg_words.specs.declared.plans.Algorithm.TheVariants.{Bfs, Sssp, Components, Forest, Colour, Grid}
 use Rattle.pg_top.specs.Text.{AreAnswersOf, AreColours, IsColumnText, IsRootOf}
+use Rattle.pg_top.specs.Summary.{summary_of}
 use Rattle.pg_top.specs.TextLaws.{TextIsOne}
 
 same_lists : {X : Type 0} (d : X) (xs ys : List X) → length xs ≡ length ys → ((i : ℕ) → i < length xs → get_or xs i d ≡ get_or ys i d) → xs ≡ ys
@@ -88,11 +91,19 @@ one_column : (algorithm : Algorithm) (source : ℕ) (g : Graph) (a b : List ℕ)
 one_column algorithm source g a b p q =
     p.spelled ∙ (ap column_text (same_answers algorithm source g p.answers q.answers p.right q.right) ∙ sym q.spelled)
 
+same_summaries : (g : Graph) (h i v w r s : List (Option ℕ)) (t u : List Edge) → h ≡ i → v ≡ w → r ≡ s → t ≡ u → summary_of g h v r t 0 ≡ summary_of g i w s u 0
+same_summaries g h i v w r s t u hops weights roots tree = cc
+
 pub text_is_one : TextIsOne
 text_is_one Bfs m n source g a b alone p q = one_column Bfs source g a b p q
 text_is_one Sssp m n source g a b alone p q = one_column Sssp source g a b p q
 text_is_one Components m n source g a b alone p q = one_column Components source g a b p q
-text_is_one Grid m n source g a b alone p q = one_column Grid source g a b p q
+text_is_one Grid m n source g a b alone p q =
+    let hops = same_answers Bfs 1 g p.hops q.hops p.least_arcs q.least_arcs in
+    let weights = same_answers Sssp 1 g p.weights q.weights p.least_weights q.least_weights in
+    let roots = same_answers Components 1 g p.roots q.roots p.lowest q.lowest in
+    let tree = forest_is_one g.edges p.tree q.tree p.forest.forest q.forest.forest in
+    p.spelled ∙ (ap summary_text (same_summaries g p.hops q.hops p.weights q.weights p.roots q.roots p.tree q.tree hops weights roots tree) ∙ sym q.spelled)
 text_is_one Forest m n source g a b alone p q =
     p.spelled ∙ (ap forest_text (forest_is_one g.edges p.tree q.tree p.right.forest q.right.forest) ∙ sym q.spelled)
 text_is_one Colour m n source g a b alone p q =

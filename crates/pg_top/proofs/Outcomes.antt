@@ -8,6 +8,10 @@ pub on_ok : {P Q : Type 0} (r : Result (Unit {0}) Fault) → OnOk r P → (P →
 on_ok (Ok x) h f = f h
 on_ok (Err e) h f = h
 
+pub on_ok_of : {T E P Q : Type 0} (r : Result T E) → OnOk r P → (P → Q) → OnOk r Q
+on_ok_of (Ok x) h f = f h
+on_ok_of (Err e) h f = h
+
 pub on_err : {P : Type 0} (r : Result (Unit {0}) Fault) (R : Fault → Type 0) → OnErr r P → ((e : Fault) → P → R e) → IfErr r R
 on_err (Ok x) R h f = h
 on_err (Err e) R h f = f e h

@@ -32,7 +32,8 @@ use Rattle.pg_top.specs.Distributions.{IsDistribution}
 use Rattle.pg_top.specs.Relaxed.{class_in, field_in, value_of}
 use Rattle.pg_top.specs.Text.{AreLeastWeights, AreLowest, IsRootOf}
 use Rattle.pg_top.specs.Work.{IsCarried, IsRelaxedBy, SpellsAnswers}
-use Rattle.pg_top.proofs.BestLemmas.{answered, arcs_fit, lanes_are_relaxed}
+use Rattle.pg_top.proofs.BestLemmas.{arcs_fit}
+use Rattle.pg_top.proofs.OverBooks.{answered, lanes_are_relaxed}
 
 pub distribution_n : (owners : Option (List ℕ)) (n ranks : ℕ) (s : Sharing) → IsDistribution owners n ranks s → s.n ≡ n
 distribution_n None n ranks s d = d.vertices
@@ -49,14 +50,14 @@ module _ {L A : Type 0} {l : LabelGhosts L} {a : AgendaGhosts A} {takes : Places
   each_vertex = r.held.count ∙ distribution_n owners g.n ranks r.sharing r.distribution
 
   best_answer : (v : ℕ) → v < g.n → (value : Option Value) × Best (label_of (l.start label) (l.add label)) (arcs_of g.edges) (v + 1) value × (slice_index_or answers v None ≡ field_in field value)
-  best_answer v h = answered label field r.sharing r.laws g is (sym (distribution_n owners g.n ranks r.sharing r.distribution)) capacity programs lanes r.relaxation costs answers r.held v h
+  best_answer v h = answered label r.sharing r.laws g capacity programs lanes r.relaxation is (sym (distribution_n owners g.n ranks r.sharing r.distribution)) costs field answers r.held v h
 
   -- The lanes are relaxed.
   carried : IsCarried label takes field owners ranks capacity g answers programs lanes
   carried = record {
     run = r;
     relaxed = subst (λ n. Relaxed (label_of (l.start label) (l.add label)) (arcs_of g.edges) r.sharing.owner r.sharing.local (value_of r.sharing programs) (sent_on n lanes)) (distribution_ranks owners g.n ranks r.sharing r.distribution)
-        (lanes_are_relaxed label r.sharing r.laws g is (sym (distribution_n owners g.n ranks r.sharing r.distribution)) capacity programs lanes r.relaxation costs);
+        (lanes_are_relaxed label r.sharing r.laws g capacity programs lanes r.relaxation is (sym (distribution_n owners g.n ranks r.sharing r.distribution)) costs);
   }
 
 module _ {A : Type 0} {a : AgendaGhosts A} {takes : Places} (owners : Option (List ℕ)) (ranks capacity : ℕ) (g : Graph) (is : IsGraph g) (answers : List (Option ℕ)) (lanes : List (Settled (Envelope Offer))) where

@@ -4,7 +4,10 @@ use Rattle.pg_base.specs.Graph.{Graph, IsGraph}
 use Rattle.pg_outside.specs.Files.{NamedBytes, contents_of, IsMissing}
 use Rattle.pg_metis.specs.File.{FileOf}
 use Rattle.pg_metis.specs.Parts.{PartsOf}
+use Rattle.pg_make.specs.Grid.{grid_of}
 use Rattle.pg_words.specs.Plan.{Meaning}
+use Rattle.pg_words.specs.declared.plans.Algorithm.{Algorithm}
+use Rattle.pg_words.specs.declared.plans.Algorithm.TheVariants.{Grid}
 
 -- Where the files are told, one has this name, and P holds of its contents.
 abbrev pub FileHolds : List ℕ → Option (List NamedBytes) → (List ℕ → Type 0) → Type 0
@@ -44,9 +47,19 @@ abbrev pub HasOwners : Option (List ℕ) → Option (List NamedBytes) → ℕ �
 HasOwners None files n ranks P = P None
 HasOwners (Some name) files n ranks P = HasList name files n ranks (λ owners. P (Some owners))
 
--- P holds of the plan's graph, and of the owners where the plan names a partition file.
+-- The algorithm is one that reads files. A grid is made.
+abbrev pub ReadsFiles : Algorithm → Type 0
+ReadsFiles a = a ≡ Grid → ⊥
+
+-- P holds of the graph and the owners of an algorithm with this plan: of the grid, divided in blocks, or of the graph of the
+-- plan's file, and of the owners where the plan names a partition file.
+abbrev pub HasInputOf : Algorithm → Meaning → Option (List NamedBytes) → (Graph → Option (List ℕ) → Type 0) → Type 0
+HasInputOf Grid plan files P = P (grid_of plan.width plan.height plan.seed) None
+HasInputOf _ plan files P = HasGraph plan.file files (λ g. HasOwners plan.parts files g.n plan.ranks (P g))
+
+-- P holds of the plan's graph and of the owners of its vertices.
 abbrev pub HasInput : Meaning → Option (List NamedBytes) → (Graph → Option (List ℕ) → Type 0) → Type 0
-HasInput plan files P = HasGraph plan.file files (λ g. HasOwners plan.parts files g.n plan.ranks (P g))
+HasInput plan files P = HasInputOf plan.algorithm plan files P
 
 -- A partition file is named, and no file has its name.
 abbrev pub IsMissingParts : Option (List ℕ) → Option (List NamedBytes) → Type 0

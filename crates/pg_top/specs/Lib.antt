@@ -5,7 +5,9 @@ pub mod Files
 pub mod Grown
 pub mod Distributions
 pub mod Run
+pub mod Summary
 pub mod Text
 pub mod TextLaws
 pub mod Relaxed
+pub mod Paired
 pub mod Work

@@ -15,7 +15,7 @@ use Rattle.pg_print.specs.declared.faults.Fault.TheVariants.{Words, Graph as Gra
 use Rattle.pg_words.specs.Plan.{Meaning, plan_of}
 use Rattle.pg_words.specs.declared.plans.PlanFault.{PlanFault}
 use Rattle.pg_words.specs.declared.plans.PlanFault.TheVariants as plan
-use Rattle.pg_top.specs.Files.{FileHolds, HasGraph, PartsHold, HasInput, MissesFile, TellsOwners, told}
+use Rattle.pg_top.specs.Files.{FileHolds, HasGraph, PartsHold, HasInput, MissesFile, ReadsFiles, TellsOwners, told}
 use Rattle.pg_top.specs.Text.{IsTextOf, has_source}
 
 -- The words have a plan, of which P holds.
@@ -56,11 +56,11 @@ OwnersFail name n ranks files before after _ = ⊥
 
 -- Why there was nothing to compute with.
 abbrev pub InputFails : Meaning → Option (List NamedBytes) → ℕ → ℕ → Fault → Type 0
-InputFails plan files before after (GraphFault line kind) = FileHolds plan.file files (λ text. fault_of text ≡ Some (record { line = line; kind = kind }))
-InputFails plan files before after (Parts line kind) = HasGraph plan.file files (λ g.
+InputFails plan files before after (GraphFault line kind) = ReadsFiles plan.algorithm × FileHolds plan.file files (λ text. fault_of text ≡ Some (record { line = line; kind = kind }))
+InputFails plan files before after (Parts line kind) = ReadsFiles plan.algorithm × HasGraph plan.file files (λ g.
     PartsHold plan.parts files (λ text. parts_fault_of g.n plan.ranks text ≡ Some (record { line = line; kind = kind })))
 InputFails plan files before after (Source source) = (source ≡ plan.source) × HasInput plan files (λ g owners. IsOutside plan g.n)
-InputFails plan files before after Read = Rose before after ⊎ MissesFile plan files
+InputFails plan files before after Read = ReadsFiles plan.algorithm × (Rose before after ⊎ MissesFile plan files)
 InputFails plan files before after Memory = ⊤
 InputFails plan files before after _ = ⊥
 
@@ -87,9 +87,10 @@ pub record Reports (before after : ℕ) (old new : Option (List ℕ)) (line : Li
 abbrev pub IsOrNoMemory : Status → Status → Type 0
 IsOrNoMemory expected status = (status ≡ expected) ⊎ (status ≡ NoMemory)
 
--- The words have this plan, and the files tell this text under the plan's name.
+-- The words have this plan, of an algorithm that reads files, and the files tell this text under the plan's name.
 pub record Tells (words : List (List ℕ)) (files : Option (List NamedBytes)) (plan : Meaning) (text : List ℕ) : Type 0 where
   pub planned : plan_of words ≡ Some plan
+  pub reads : ReadsFiles plan.algorithm
   pub contents : told plan.file files ≡ Some text
 
 -- Likewise, the text is a file of this graph, and a partition file that the plan names lists owners of its vertices.

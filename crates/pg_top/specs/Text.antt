@@ -1,18 +1,21 @@
 -- What a run prints.
 -- Source: Cormen, Leiserson, Rivest and Stein, Introduction to Algorithms, chapters 21.1 (components), 22.2 and 24 (least distances)
 -- and 23 (spanning trees); Diestel, Graph Theory, chapter 5 (colours).
-use Rattle.std.specs.Prelude.{◌≡◌, ℕ, ◌+◌, ◌<◌, ◌≤◌, Bool, true, false, Option, Some, None, List, length, map, slice_index_or}
+use Rattle.std.specs.Prelude.{◌≡◌, ℕ, ◌+◌, ◌<◌, ◌≤◌, Bool, true, false, Option, Some, None, List, length, map, slice_index_or, All}
 use Rattle.pg_base.specs.declared.edges.Edge.{Edge}
 use Rattle.pg_base.specs.Graph.{Graph, arcs_of}
 use Rattle.pg_base.specs.Colouring.{AreProper, IsFirstFit, colour_in}
 use Rattle.pg_base.specs.Forest.{IsForest, Spans, total_weight}
 use Rattle.pg_base.specs.Walk.{LeastWeight, IsLowest}
 use Rattle.pg_base.specs.Distances.{AreLeastArcs}
+use Rattle.pg_make.specs.declared.TheConstants.{MAX_GRID_WEIGHT}
 use Rattle.pg_print.specs.Columns.{column_text}
 use Rattle.pg_print.specs.Forests.{forest_text}
+use Rattle.pg_print.specs.Summaries.{summary_text}
 use Rattle.pg_words.specs.Plan.{Meaning}
 use Rattle.pg_words.specs.declared.plans.Algorithm.{Algorithm}
-use Rattle.pg_words.specs.declared.plans.Algorithm.TheVariants.{Bfs, Sssp, Components, Forest, Colour}
+use Rattle.pg_words.specs.declared.plans.Algorithm.TheVariants.{Bfs, Sssp, Components, Forest, Colour, Grid}
+use Rattle.pg_top.specs.Summary.{summary_of}
 
 -- Place v - 1 holds the least weight of a walk from s to v.
 pub record AreLeastWeights (g : Graph) (s : ℕ) (distances : List (Option ℕ)) : Type 0 where
@@ -77,10 +80,28 @@ pub record IsColourText (ranks : ℕ) (g : Graph) (text : List ℕ) : Type 0 whe
   pub right : AreColours ranks g colours
   pub spelled : text ≡ column_text (map Some colours)
 
+-- A graph with a vertex, whose edges weigh no more than those of a grid.
+pub record IsSmallGrid (g : Graph) : Type 0 where
+  pub some : 1 ≤ g.n
+  pub light : All (λ e. e.w ≤ MAX_GRID_WEIGHT) g.edges
+
+-- The summary of what all algorithms answer, from vertex 1. No edge has ends of one colour.
+pub record IsSummaryText (g : Graph) (text : List ℕ) : Type 0 where
+  pub hops : List (Option ℕ)
+  pub weights : List (Option ℕ)
+  pub roots : List (Option ℕ)
+  pub tree : List Edge
+  pub least_arcs : AreLeastArcs g 1 hops
+  pub least_weights : AreLeastWeights g 1 weights
+  pub lowest : AreLowest g roots
+  pub forest : IsLeastForest g tree
+  pub spelled : text ≡ summary_text (summary_of g hops weights roots tree 0)
+
 -- The text is what the algorithm says of the graph, on so many ranks and from this source.
 abbrev pub IsAnswerText : Algorithm → ℕ → ℕ → Graph → List ℕ → Type 0
 IsAnswerText Forest ranks source g text = IsForestText g text
 IsAnswerText Colour ranks source g text = IsColourText ranks g text
+IsAnswerText Grid ranks source g text = IsSummaryText g text
 IsAnswerText a ranks source g text = IsColumnText a source g text
 
 -- The text is what the plan's algorithm says of the graph.

@@ -7,13 +7,14 @@ ghost use Rattle.pg_top.specs.Answered.{text_in};
 
 use crate::columns::{Numbers, Tree};
 use pg_outside::{Failed, Sink};
-use pg_print::{print_column, print_forest};
+use pg_print::{Summary, print_column, print_forest, print_summary};
 
 /// What a run answers.
 #[derive(Drop)]
 pub(crate) enum Answers {
     Column(Numbers),
     Forest(Tree),
+    Summary(Summary),
 }
 
 /// Writes the text of the answers.
@@ -26,5 +27,6 @@ pub(crate) fn print_answers<S: Sink>(out: &mut S, answers: &Answers) -> Result<(
     match answers {
         Answers::Column(numbers) => print_column(out, numbers),
         Answers::Forest(tree) => print_forest(out, &tree.graph, &tree.indices),
+        Answers::Summary(summary) => print_summary(out, summary),
     }
 }

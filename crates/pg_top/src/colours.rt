@@ -9,7 +9,7 @@ ghost use Rattle.pg_colour.specs.Whole.{colour_in};
 ghost use Rattle.pg_top.specs.Coloured.{AreHeld, HavePlaces, IsColouring, IsColouringOver};
 ghost use Rattle.pg_top.specs.Relaxed.{AreInOrder};
 ghost use Rattle.pg_top.specs.Text.{IsColourText};
-ghost use Rattle.pg_top.specs.Work.{IsColouredBy, SpellsColours};
+ghost use Rattle.pg_top.specs.Work.{HasColours, IsColouredBy, SpellsColours};
 
 use crate::columns::Numbers;
 use crate::crews::Crew;
@@ -171,6 +171,8 @@ pub(crate) fn proper_colours<W: Threads + Wait + Sync, G: Gate>(
 ) -> Result<Coloured, OutOfMemory>
     requires each { ForSome input.owners (λ owners. vec_len owners ≡ input.graph.n) }
     requires are_ranks { ForSome input.owners (λ owners. All (λ owner. owner < crew.now.ranks) owners.items) }
+    ensures has { IfOk result (λ c. HasColours (option_map (λ owners. owners.items) input.owners) crew.now.ranks crew.now.capacity input.graph c.colours.of_vertices.items
+        c.finished.programs.items c.finished.lanes.items) }
     ensures right { IfOk result (λ c. IsColourText crew.now.ranks input.graph (column_text c.colours.of_vertices.items)) }
     ensures spells { IfOk result (λ c. SpellsColours (option_map (λ owners. owners.items) input.owners) crew.now.ranks crew.now.capacity input.graph (column_text c.colours.of_vertices.items)
         c.finished.programs.items c.finished.lanes.items) }

@@ -10,7 +10,7 @@ ghost use Rattle.pg_base.specs.Graph.{Graph};
 ghost use Rattle.pg_words.specs.Built.{IsBuilt};
 ghost use Rattle.pg_words.specs.Plan.{Meaning, meaning_of, plan_of, texts};
 ghost use Rattle.pg_top.specs.Answered.{text_in};
-ghost use Rattle.pg_top.specs.Files.{FileHolds, HasGraph, HasInput, IsReadToEnd, MissesFile, PartsHold};
+ghost use Rattle.pg_top.specs.Files.{FileHolds, HasGraph, HasInput, IsReadToEnd, MissesFile, PartsHold, ReadsFiles};
 ghost use Rattle.pg_top.specs.Run.{HasPlan, HasText, InputFails, IsOrNoMemory, IsOutside, PlanFails, PrepareFails, Reports, RunFails, Tells, TellsInput, TellsPartsFault, from_plan};
 ghost use Rattle.pg_top.specs.Text.{IsInside};
 ghost use Rattle.pg_top.specs.Work.{HasWork, IsSolved};
@@ -18,8 +18,8 @@ ghost use Rattle.pg_top.specs.Work.{HasWork, IsSolved};
 use crate::answers::print_answers;
 use crate::inputs::read_input;
 use crate::solving::{Solved, crew_of, solve};
-use crate::{Answer, Plan, PlanFault, Work, plan};
-use pg_base::{Gate, Status};
+use crate::{Algorithm, Answer, Plan, PlanFault, Work, plan};
+use pg_base::{Gate, OutOfMemory, Status};
 use pg_outside::{Inputs, Sink};
 use pg_print::{Fault, print_fault};
 use std::alloc::Global;
@@ -58,14 +58,18 @@ fn find<W: Threads + Wait + Sync, I: Inputs, G: Gate>(
     requires { IsBuilt (meaning_of plan.now) }
     ensures found { IfOk result (λ s. HasInput (meaning_of plan.now) (I.files inputs.old)
         (λ g owners. IsSolved (meaning_of plan.now) g owners (text_in s.answers) s.work)) }
-    ensures end { OnOk result (IsReadToEnd (I.files inputs.old) (I.left inputs.new)) }
+    ensures end { OnOk result (ReadsFiles plan.now.algorithm → IsReadToEnd (I.files inputs.old) (I.left inputs.new)) }
+    ensures unread { plan.now.algorithm ≡ Algorithm.Grid → inputs.new ≡ inputs.old }
     ensures fails { IfErr result (InputFails (meaning_of plan.now) (I.files inputs.old) (I.faults inputs.old) (I.faults inputs.new)) }
     ensures later { I.faults inputs.old ≤ I.faults inputs.new }
     ensures files { I.files inputs.new ≡ I.files inputs.old }
 {
     let crew = crew_of(plan);
     let input = read_input(alloc, inputs, plan, crew.ranks)?;
-    solve(token, alloc, input, plan, &crew, gate).map_err(|_| Fault::Memory)
+    match solve(token, alloc, input, plan, &crew, gate) {
+        Ok(solved) => Ok(solved),
+        Err(OutOfMemory) => Err(Fault::Memory),
+    }
 }
 
 /// Plans, reads and runs the plan's algorithm.
@@ -78,9 +82,10 @@ fn prepare<W: Threads + Wait + Sync, I: Inputs, G: Gate>(
 ) -> Result<Solved, Fault>
     ensures found { IfOk result (λ s. HasPlan (texts words.now) (λ plan. HasInput plan (I.files inputs.old)
         (λ g owners. IsSolved plan g owners (text_in s.answers) s.work))) }
-    ensures end { OnOk result (IsReadToEnd (I.files inputs.old) (I.left inputs.new)) }
+    ensures end { OnOk result (HasPlan (texts words.now) (λ plan. ReadsFiles plan.algorithm → IsReadToEnd (I.files inputs.old) (I.left inputs.new))) }
     ensures fails { IfErr result (PrepareFails (texts words.now) (I.files inputs.old) (I.faults inputs.old) (I.faults inputs.new)) }
     ensures unread { plan_of (texts words.now) ≡ None → inputs.new ≡ inputs.old }
+    ensures made { (plan : Meaning) → plan_of (texts words.now) ≡ Some plan → plan.algorithm ≡ Algorithm.Grid → inputs.new ≡ inputs.old }
     ensures later { I.faults inputs.old ≤ I.faults inputs.new }
     ensures files { I.files inputs.new ≡ I.files inputs.old }
 {
@@ -121,7 +126,7 @@ fn run<W: Threads + Wait + Sync, I: Inputs, S: Sink, G: Gate>(
     ensures no_work { IfErr result.0 (λ fault. (fault ≡ Fault.Write → ⊥) → result.1 ≡ Work.None) }
     ensures printed { OnOk result.0 (HasPlan (texts words.now)
         (λ plan. HasText plan (I.files inputs.old) (Appends (S.text out.old) (S.text out.new)))) }
-    ensures end { OnOk result.0 (IsReadToEnd (I.files inputs.old) (I.left inputs.new)) }
+    ensures end { OnOk result.0 (HasPlan (texts words.now) (λ plan. ReadsFiles plan.algorithm → IsReadToEnd (I.files inputs.old) (I.left inputs.new))) }
     ensures fails { IfErr result.0 (RunFails (texts words.now) (I.files inputs.old) (record {
       inputs_before = I.faults inputs.old;
       inputs_after = I.faults inputs.new;
@@ -132,6 +137,7 @@ fn run<W: Threads + Wait + Sync, I: Inputs, S: Sink, G: Gate>(
     })) }
     ensures silent { IfErr result.0 (λ fault. (fault ≡ Fault.Write → ⊥) → out.new ≡ out.old) }
     ensures unread { plan_of (texts words.now) ≡ None → inputs.new ≡ inputs.old }
+    ensures made { (plan : Meaning) → plan_of (texts words.now) ≡ Some plan → plan.algorithm ≡ Algorithm.Grid → inputs.new ≡ inputs.old }
     ensures later { I.faults inputs.old ≤ I.faults inputs.new }
     ensures files { I.files inputs.new ≡ I.files inputs.old }
     ensures out_later { S.faults out.old ≤ S.faults out.new }
@@ -144,21 +150,22 @@ fn run<W: Threads + Wait + Sync, I: Inputs, S: Sink, G: Gate>(
 
 /// Runs the program: the words after its name, a source of files, standard output and standard error.
 ///
-/// With status `Ok`, `out` grew by exactly the text of the words' plan for the graph of which the plan's file is
-/// one. This is a line for each vertex from 1 to n: for `bfs` the least number of arcs of a walk from the source, for
-/// `sssp` the least weight of one, `-` where no walk leads there, and for `components` the least vertex that a
-/// walk joins to it. For `forest` it is a line `u v w` for each edge of the least spanning forest, ascending, ties in
-/// weight going by (u, v), and then `total T` with the sum of the weights; no edges that span weigh less. For `colour` it is
-/// again a line for each vertex, with a colour from 0 that none of its neighbours has, at most its degree; on one rank
-/// that of first fit. But for the colours, the text is the same for every number of ranks and threads, every capacity of
-/// lanes and every partition file. With every other status one line that tells the fault was written to `errs`, whose own
-/// faults change nothing.
+/// With status `Ok`, `out` grew by exactly the text of the words' plan for its graph: that of which the plan's file is one,
+/// or the grid that the words describe. This is a line for each vertex from 1 to n: for `bfs` the least number of arcs of a
+/// walk from the source, for `sssp` the least weight of one, `-` where no walk leads there, for `components` the least
+/// vertex that a walk joins to it, and for `colour` a colour from 0, at most its degree, that no neighbour has, on one rank
+/// the colour of first fit. For `forest` it is a line `u v w` for each edge of the least spanning forest, ascending, ties in
+/// weight going by (u, v), and then `total T` with the sum of the weights; no edges that span weigh less. For `grid` it is
+/// seven lines with numbers that are counted from what the algorithms answer, distances from vertex 1; the last one tells
+/// that no edge has ends of one colour. But for colours the text is the same for every number of ranks and threads, every
+/// capacity of lanes and every partition file. With every other status one line that tells the fault was written to `errs`,
+/// whose own faults change nothing.
 ///
 /// The first fault that is met is answered, in this order: the words (`BadWords`), beginning and reading the
 /// graph file (`ReadFault`, `BadGraph`), beginning and reading the partition file (`ReadFault`, `BadParts`), the source
 /// (`BadSource`), the writing (`WriteFault`, after a front of the text). Want of memory (`NoMemory`) may come
 /// before the first write to `out`. Nothing is written to `out` with any status but `Ok` and `WriteFault`. Where the
-/// words have no plan no name is begun and nothing is read.
+/// words have no plan, and for a grid, no name is begun and nothing is read.
 ///
 /// With `Ok` and `WriteFault` the final programs and the settled lanes of this very run are handed back, which hold what
 /// the text spells.
@@ -178,21 +185,22 @@ pub fn command<W: Threads + Wait + Sync, I: Inputs, S: Sink, E: Sink, G: Gate>(
     ensures works_partly { result.status ≡ Status.WriteFault → HasPlan (texts words.now)
         (λ plan. HasWork plan (I.files inputs.old) result.work (AppendsFront (S.text out.old) (S.text out.new))) }
     ensures no_work { (result.status ≡ Status.Ok → ⊥) → (result.status ≡ Status.WriteFault → ⊥) → result.work ≡ Work.None }
-    ensures read_to_end { result.status ≡ Status.Ok → IsReadToEnd (I.files inputs.old) (I.left inputs.new) }
+    ensures read_to_end { result.status ≡ Status.Ok → HasPlan (texts words.now)
+        (λ plan. ReadsFiles plan.algorithm → IsReadToEnd (I.files inputs.old) (I.left inputs.new)) }
     ensures silent { (result.status ≡ Status.Ok → ⊥) → (result.status ≡ Status.WriteFault → ⊥) →
         out.new ≡ out.old }
 
     // Only where the cause stands.
     ensures bad_words { result.status ≡ Status.BadWords → plan_of (texts words.now) ≡ None }
     ensures bad_graph { result.status ≡ Status.BadGraph → HasPlan (texts words.now)
-        (λ plan. FileHolds plan.file (I.files inputs.old) (λ text. (fault : FirstFault) × (fault_of text ≡ Some fault))) }
+        (λ plan. ReadsFiles plan.algorithm × FileHolds plan.file (I.files inputs.old) (λ text. (fault : FirstFault) × (fault_of text ≡ Some fault))) }
     ensures bad_parts { result.status ≡ Status.BadParts → HasPlan (texts words.now)
-        (λ plan. HasGraph plan.file (I.files inputs.old) (λ g. PartsHold plan.parts (I.files inputs.old)
+        (λ plan. ReadsFiles plan.algorithm × HasGraph plan.file (I.files inputs.old) (λ g. PartsHold plan.parts (I.files inputs.old)
         (λ text. (fault : FirstPartsFault) × (parts_fault_of g.n plan.ranks text ≡ Some fault)))) }
     ensures bad_source { result.status ≡ Status.BadSource → HasPlan (texts words.now)
         (λ plan. HasInput plan (I.files inputs.old) (λ g owners. IsOutside plan g.n)) }
     ensures read_fault { result.status ≡ Status.ReadFault → HasPlan (texts words.now)
-        (λ plan. Rose (I.faults inputs.old) (I.faults inputs.new) ⊎ MissesFile plan (I.files inputs.old)) }
+        (λ plan. ReadsFiles plan.algorithm × (Rose (I.faults inputs.old) (I.faults inputs.new) ⊎ MissesFile plan (I.files inputs.old))) }
     ensures write_fault { result.status ≡ Status.WriteFault → HasPlan (texts words.now)
         (λ plan. Rose (S.faults out.old) (S.faults out.new) ×
         HasText plan (I.files inputs.old) (AppendsFront (S.text out.old) (S.text out.new))) }
@@ -215,6 +223,8 @@ pub fn command<W: Threads + Wait + Sync, I: Inputs, S: Sink, E: Sink, G: Gate>(
         TellsInput (texts words.now) (I.files inputs.old) plan g → IsInside plan.algorithm plan.source g.n →
         (Rose (I.faults inputs.old) (I.faults inputs.new) → ⊥) →
         (Rose (S.faults out.old) (S.faults out.new) → ⊥) → IsOrNoMemory Status.Ok result.status }
+    ensures complete_grid { (plan : Meaning) → plan_of (texts words.now) ≡ Some plan → plan.algorithm ≡ Algorithm.Grid →
+        (Rose (S.faults out.old) (S.faults out.new) → ⊥) → IsOrNoMemory Status.Ok result.status }
 
     // What is told of a fault.
     ensures quiet { result.status ≡ Status.Ok → errs.new ≡ errs.old }
@@ -232,6 +242,7 @@ pub fn command<W: Threads + Wait + Sync, I: Inputs, S: Sink, E: Sink, G: Gate>(
 
     // What stays.
     ensures unread { plan_of (texts words.now) ≡ None → inputs.new ≡ inputs.old }
+    ensures made { (plan : Meaning) → plan_of (texts words.now) ≡ Some plan → plan.algorithm ≡ Algorithm.Grid → inputs.new ≡ inputs.old }
     ensures files { I.files inputs.new ≡ I.files inputs.old }
     ensures later { I.faults inputs.old ≤ I.faults inputs.new }
     ensures out_later { S.faults out.old ≤ S.faults out.new }

@@ -9,9 +9,10 @@ ghost use Rattle.pg_boruvka.specs.Portions.{part_of};
 ghost use Rattle.pg_boruvka.specs.Shown.{IsNewDense};
 ghost use Rattle.pg_top.specs.Grown.{HaveEdgesBelow, IsGrowth, IsGrowthOver};
 ghost use Rattle.pg_top.specs.Relaxed.{AreInOrder};
-ghost use Rattle.pg_top.specs.Text.{IsForestText};
+ghost use Rattle.pg_print.specs.Forests.{edges_at};
+ghost use Rattle.pg_top.specs.Text.{IsForestText, IsLeastForest};
 ghost use Rattle.pg_top.specs.Answered.{tree_text};
-ghost use Rattle.pg_top.specs.Work.{IsGrownBy, SpellsForest};
+ghost use Rattle.pg_top.specs.Work.{HasForest, IsGrownBy, SpellsForest};
 
 use crate::columns::Tree;
 use crate::crews::Crew;
@@ -135,6 +136,9 @@ pub(crate) fn least_forest<W: Threads + Wait + Sync, G: Gate>(
 ) -> Result<Grown, OutOfMemory>
     requires each { ForSome input.owners (λ owners. vec_len owners ≡ input.graph.n) }
     requires are_ranks { ForSome input.owners (λ owners. All (λ owner. owner < crew.now.ranks) owners.items) }
+    ensures least { IfOk result (λ grown. IsLeastForest input.graph (edges_at grown.tree.graph.edges grown.tree.indices.items)) }
+    ensures held { IfOk result (λ grown. HasForest (option_map (λ owners. owners.items) input.owners) crew.now.ranks crew.now.capacity input.graph (edges_at grown.tree.graph.edges grown.tree.indices.items)
+        grown.finished.programs.items grown.finished.lanes.items) }
     ensures right { IfOk result (λ grown. IsForestText input.graph (tree_text grown.tree)) }
     ensures spells { IfOk result (λ grown. SpellsForest (option_map (λ owners. owners.items) input.owners) crew.now.ranks crew.now.capacity input.graph (tree_text grown.tree)
         grown.finished.programs.items grown.finished.lanes.items) }

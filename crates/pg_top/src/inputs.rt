@@ -1,13 +1,16 @@
 //! What the files of a plan say: its graph, and the owners of the vertices.
-ghost use Rattle.std.specs.Prelude.{◌≡◌, ◌<◌, ◌≤◌, All, IfOk, IfErr, OnOk, true, false, vec_len};
+ghost use Rattle.std.specs.Prelude.{◌≡◌, ◌<◌, ◌≤◌, All, IfOk, IfErr, None, OnOk, true, false, vec_len};
 ghost use Rattle.std.specs.Option.{ForSome, option_map};
+ghost use Rattle.pg_make.specs.Grid.{grid_of};
+ghost use Rattle.pg_words.specs.Built.{IsBuilt, IsGridBuilt};
 ghost use Rattle.pg_words.specs.Plan.{meaning_of};
-ghost use Rattle.pg_top.specs.Files.{HasGraph, HasInput, HasList, HasOwners, IsReadToEnd};
+ghost use Rattle.pg_top.specs.Files.{HasGraph, HasInput, HasList, HasOwners, IsReadToEnd, ReadsFiles};
 ghost use Rattle.pg_top.specs.Run.{InputFails, IsOutside, LoadFails, OwnersFail, PartsFail};
-ghost use Rattle.pg_top.specs.Text.{IsInside};
+ghost use Rattle.pg_top.specs.Text.{IsInside, IsSmallGrid};
 
 use crate::{Algorithm, Plan};
-use pg_base::{EdgeList, Ranks};
+use pg_base::{EdgeList, OutOfMemory, Ranks};
+use pg_make::grid;
 use pg_metis::{read_graph, read_parts};
 use pg_outside::Inputs;
 use pg_print::Fault;
@@ -93,14 +96,32 @@ fn is_outside(plan: &Plan, n: u32) -> bool
     }
 }
 
+/// The grid of the plan's size and seed, to be divided in blocks.
+fn make_grid(alloc: Global, plan: &Plan) -> Result<Input, Fault>
+    requires built { IsGridBuilt (meaning_of plan.now) }
+    ensures graph { IfOk result (λ input. input.graph ≡ grid_of plan.now.width plan.now.height plan.now.seed) }
+    ensures owners { IfOk result (λ input. input.owners ≡ None) }
+    ensures small { IfOk result (λ input. IsSmallGrid input.graph) }
+    ensures fails { IfErr result (λ fault. fault ≡ Fault.Memory) }
+{
+    match grid(alloc, plan.width, plan.height, plan.seed) {
+        Ok(graph) => Ok(Input {
+            graph,
+            owners: None,
+        }),
+        Err(OutOfMemory) => Err(Fault::Memory),
+    }
+}
+
 /// Reads the plan's graph and then its partition file, if it names one. The source is looked at last.
-pub(crate) fn read_input<I: Inputs>(
+fn read_files<I: Inputs>(
     alloc: Global,
     inputs: &mut I,
     plan: &Plan,
     ranks: Ranks,
 ) -> Result<Input, Fault>
-    requires { ranks ≡ plan.now.ranks }
+    requires reads { ReadsFiles plan.now.algorithm }
+    requires ranks { ranks ≡ plan.now.ranks }
     ensures has { IfOk result (λ input. HasInput (meaning_of plan.now) (I.files inputs.old)
         (λ g owners. (g ≡ input.graph) × (owners ≡ option_map (λ o. o.items) input.owners))) }
     ensures inside { IfOk result (λ input. IsInside plan.now.algorithm plan.now.source input.graph.n) }
@@ -120,4 +141,33 @@ pub(crate) fn read_input<I: Inputs>(
         });
     }
     Ok(Input { graph, owners })
+}
+
+/// What the plan's algorithm computes with: the grid of the plan, where nothing is read, or the plan's graph and then its
+/// partition file, if it names one. The source is looked at last.
+pub(crate) fn read_input<I: Inputs>(
+    alloc: Global,
+    inputs: &mut I,
+    plan: &Plan,
+    ranks: Ranks,
+) -> Result<Input, Fault>
+    requires built { IsBuilt (meaning_of plan.now) }
+    requires ranks { ranks ≡ plan.now.ranks }
+    ensures has { IfOk result (λ input. HasInput (meaning_of plan.now) (I.files inputs.old)
+        (λ g owners. (g ≡ input.graph) × (owners ≡ option_map (λ o. o.items) input.owners))) }
+    ensures inside { IfOk result (λ input. IsInside plan.now.algorithm plan.now.source input.graph.n) }
+    ensures count { IfOk result (λ input. ForSome input.owners (λ owners. vec_len owners ≡ input.graph.n)) }
+    ensures below { IfOk result (λ input. ForSome input.owners (λ owners. All (λ owner. owner < ranks) owners.items)) }
+    ensures in_blocks { IfOk result (λ input. plan.now.algorithm ≡ Algorithm.Grid → input.owners ≡ None) }
+    ensures small { IfOk result (λ input. plan.now.algorithm ≡ Algorithm.Grid → IsSmallGrid input.graph) }
+    ensures end { OnOk result (ReadsFiles plan.now.algorithm → IsReadToEnd (I.files inputs.old) (I.left inputs.new)) }
+    ensures unread { plan.now.algorithm ≡ Algorithm.Grid → inputs.new ≡ inputs.old }
+    ensures fails { IfErr result (InputFails (meaning_of plan.now) (I.files inputs.old) (I.faults inputs.old) (I.faults inputs.new)) }
+    ensures later { I.faults inputs.old ≤ I.faults inputs.new }
+    ensures files { I.files inputs.new ≡ I.files inputs.old }
+{
+    match plan.algorithm {
+        Algorithm::Grid => make_grid(alloc, plan),
+        _ => read_files(alloc, inputs, plan, ranks),
+    }
 }

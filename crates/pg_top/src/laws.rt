@@ -2,7 +2,7 @@
 //! follows from them in general. No call does anything: each is proved to meet the laws that its clauses
 //! state.
 
-ghost use Rattle.std.specs.Prelude.{codes};
+ghost use Rattle.std.specs.Prelude.{codes, []};
 ghost use Rattle.pg_base.specs.Examples.{graph, path_edges, triangle_edges};
 ghost use Rattle.pg_words.specs.declared.plans.Algorithm.TheVariants.{Bfs, Sssp, Components, Forest, Colour, Grid};
 ghost use Rattle.pg_top.specs.Text.{IsAnswerText};
@@ -28,7 +28,8 @@ pub fn other_texts()
     ensures weights_count_no_arcs { IsAnswerText Sssp 1 1 (graph 4 path_edges) (codes "0\n1\n2\n-\n") → ⊥ }
     ensures weights_below { IsAnswerText Sssp 1 0 (graph 4 path_edges) (codes "0\n5\n7\n-\n") → ⊥ }
     ensures roots { IsAnswerText Components 1 0 (graph 4 path_edges) (codes "1\n1\n1\n4\n") }
-    ensures not_built { IsAnswerText Grid 1 0 (graph 4 path_edges) (codes "") → ⊥ }
+    ensures summary { IsAnswerText Grid 1 0 (graph 1 []) (codes "vertices 1\nedges 0\nhops 1 0 0\nweights 1 0 0\ncomponents 1\nforest 0 0\nclashes 0\n") }
+    ensures summary_with_clashes { IsAnswerText Grid 1 0 (graph 1 []) (codes "vertices 1\nedges 0\nhops 1 0 0\nweights 1 0 0\ncomponents 1\nforest 0 0\nclashes 1\n") → ⊥ }
 {}
 
 /// What forests print: of a triangle's equal weights the edge with the last ends is left out, and no other one.

@@ -22,7 +22,7 @@ use std::sync::Wait;
 use std::thread::Threads;
 
 /// The relaxations of the parts, in their order, each with a new agenda.
-fn programs_of<L: Label + Copy + Drop, A: Agenda + Drop, M: Agendas<A>>(
+pub(crate) fn programs_of<L: Label + Copy + Drop, A: Agenda + Drop, M: Agendas<A>>(
     alloc: Global,
     mut parts: Vec<Part>,
     label: L,
@@ -124,7 +124,7 @@ pub(crate) fn answers<L: Label, A: Agenda, D: Distribution>(
 }
 
 /// One number of a value, if there is one.
-fn number(value: Option<Value>, field: Field) -> Option<u64>
+pub(crate) fn number(value: Option<Value>, field: Field) -> Option<u64>
     ensures { result ≡ field_in field value }
 {
     let value = value?;

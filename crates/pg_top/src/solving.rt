@@ -1,5 +1,5 @@
 //! A plan's algorithm over its graph: its programs, and the answers that they hold.
-ghost use Rattle.std.specs.Prelude.{◌≡◌, ◌<◌, ◌≤◌, ◌^◌, All, IfOk, vec_len};
+ghost use Rattle.std.specs.Prelude.{◌≡◌, ◌<◌, ◌≤◌, ◌^◌, All, IfOk, None, vec_len};
 ghost use Rattle.std.specs.Option.{ForSome, option_map};
 ghost use Rattle.pg_agenda.specs.BucketPhases.{takes_by};
 ghost use Rattle.pg_agenda.specs.Shares.{takes_all};
@@ -9,7 +9,7 @@ ghost use Rattle.pg_words.specs.Built.{IsBuilt};
 ghost use Rattle.pg_top.specs.Relaxed.{AreAnswers, IsRelaxation};
 ghost use Rattle.pg_base.specs.Distances.{AreLeastArcs};
 ghost use Rattle.pg_top.specs.Answered.{text_in};
-ghost use Rattle.pg_top.specs.Text.{AreLeastWeights, AreLowest, IsInside, IsTextOf};
+ghost use Rattle.pg_top.specs.Text.{AreLeastWeights, AreLowest, IsInside, IsSmallGrid, IsTextOf};
 ghost use Rattle.pg_top.specs.Work.{IsCarried, IsRelaxedBy, IsWork};
 
 use crate::agendas::{Agendas, ByBucket, ByLevel};
@@ -18,6 +18,7 @@ use crate::colours::proper_colours;
 use crate::columns::{Field, Numbers};
 use crate::crews::Crew;
 use crate::forests::least_forest;
+use crate::gridding::summarize;
 use crate::inputs::Input;
 use crate::relaxing::{answers, relax};
 use crate::weights::heaviest;
@@ -41,9 +42,9 @@ pub(crate) struct Solved {
 
 /// The answers of a relaxation, and the programs and lanes that ended with them.
 #[derive(Drop)]
-struct Relaxed<L: Label + Send, A: Agenda + Send> {
-    answers: Numbers,
-    finished: Finished<Relax<L, A>>,
+pub(crate) struct Relaxed<L: Label + Send, A: Agenda + Send> {
+    pub(crate) answers: Numbers,
+    pub(crate) finished: Finished<Relax<L, A>>,
 }
 
 /// Relaxes over the ranks among which `dist` divides the graph.
@@ -161,7 +162,7 @@ fn least_arcs<W: Threads + Wait + Sync, G: Gate>(
 }
 
 /// The least weights of walks from the source, by buckets of this width.
-fn least_weights<W: Threads + Wait + Sync, G: Gate>(
+pub(crate) fn least_weights<W: Threads + Wait + Sync, G: Gate>(
     token: &W,
     alloc: Global,
     input: Input,
@@ -236,6 +237,8 @@ pub(crate) fn solve<W: Threads + Wait + Sync, G: Gate>(
     requires each { ForSome input.owners (λ owners. vec_len owners ≡ input.graph.n) }
     requires are_ranks { ForSome input.owners (λ owners. All (λ owner. owner < crew.now.ranks) owners.items) }
     requires inside { IsInside plan.now.algorithm plan.now.source input.graph.n }
+    requires in_blocks { plan.now.algorithm ≡ Algorithm.Grid → input.owners ≡ None }
+    requires grid { plan.now.algorithm ≡ Algorithm.Grid → IsSmallGrid input.graph }
     ensures right { IfOk result (λ s. IsTextOf (meaning_of plan.now) input.graph (text_in s.answers)) }
     ensures work { IfOk result (λ s. IsWork (meaning_of plan.now) input.graph (option_map (λ owners. owners.items) input.owners) (text_in s.answers) s.work) }
 {
@@ -275,6 +278,6 @@ pub(crate) fn solve<W: Threads + Wait + Sync, G: Gate>(
                 work: Work::Colours(coloured.finished),
             })
         }
-        Algorithm::Grid => unreachable!(),
+        Algorithm::Grid => summarize(token, alloc, input.graph, plan.delta, crew, gate),
     }
 }

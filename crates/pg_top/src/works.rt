@@ -5,6 +5,7 @@ use pg_colour::Colouring;
 use pg_label::{Hops, Root, Weight};
 use pg_relax::Relax;
 use pg_run::Finished;
+use pg_triggers::Pair;
 
 /// What a run leaves beside its texts: the final programs of its ranks, by rank, and the lanes between them, ascending
 /// in (sender, receiver).
@@ -22,6 +23,14 @@ pub enum Work {
     Forest(Finished<Dense>),
     /// Those of a colouring.
     Colours(Finished<Colouring>),
+    /// Those of all of them on a grid: of a breadth-first search and of components in one run, of least weights, of a
+    /// least spanning forest and of a colouring.
+    Grid {
+        both: Finished<Pair<Relax<Hops, Levels>, Relax<Root, Levels>>>,
+        weights: Finished<Relax<Weight, Buckets>>,
+        forest: Finished<Dense>,
+        colours: Finished<Colouring>,
+    },
 }
 
 /// How a run ended, and what it leaves.

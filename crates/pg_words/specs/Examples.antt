@@ -3,7 +3,7 @@ use Rattle.std.specs.Prelude.{ℕ, ◌≡◌, Some, None, [], codes, List}
 use Rattle.pg_text.specs.Text.{words}
 use Rattle.pg_words.specs.Plan.{Meaning, plan_of}
 use Rattle.pg_words.specs.declared.plans.Algorithm.{Algorithm}
-use Rattle.pg_words.specs.declared.plans.Algorithm.TheVariants.{Bfs, Sssp, Components, Forest, Colour}
+use Rattle.pg_words.specs.declared.plans.Algorithm.TheVariants.{Bfs, Sssp, Components, Forest, Colour, Grid}
 
 -- This algorithm on this file from this source, with one rank and one thread, lanes of 1,024 messages, the block
 -- distribution and no delta.
@@ -34,6 +34,22 @@ TakesAlgorithms =
     × (plan_of (words (codes "components A")) ≡ Some (plain Components (codes "A") 0))
     × (plan_of (words (codes "forest A")) ≡ Some (plain Forest (codes "A") 0))
     × (plan_of (words (codes "colour A")) ≡ Some (plain Colour (codes "A") 0))
+
+-- A grid of two columns and two rows, with buckets of this width.
+abbrev pub small_grid : ℕ → Meaning
+small_grid delta = record (plain Grid [] 0) { delta = delta; width = 2; height = 2; seed = 7 }
+
+-- A grid takes no file. It may have a single vertex, and at most 1,048,576; the seed may be 0.
+abbrev pub TakesGrids : Type 0
+TakesGrids =
+    (plan_of (words (codes "grid --width 2 --height 2 --seed 7")) ≡ Some (small_grid 32))
+    × (plan_of (words (codes "--seed=7 --height=2 grid --width=2 --delta 1")) ≡ Some (small_grid 1))
+    × (plan_of (words (codes "grid --width 2 --height 2 --seed 7 --ranks 4 --threads 2 --capacity 3")) ≡ Some (record (small_grid 32) { ranks = 4; threads = 2; capacity = 3 }))
+    × (plan_of (words (codes "grid --width 2 --height 2 --seed 7 --ranks 4")) ≡ Some (record (small_grid 32) { ranks = 4; threads = 4 }))
+    × (plan_of (words (codes "grid --width 1048576 --height 1 --seed 0")) ≡ Some (record (small_grid 32) { width = 1048576; height = 1; seed = 0 }))
+    × (plan_of (words (codes "grid --width 1048577 --height 1 --seed 0")) ≡ None)
+    × (plan_of (words (codes "grid --width 0 --height 2 --seed 7")) ≡ None)
+    × (plan_of (words (codes "grid --width 2 --height 2")) ≡ None)
 
 -- Each algorithm takes the common options. There are as many threads as ranks where no word says otherwise, and
 -- there may be more; an empty value of `--parts` is the empty name.
@@ -77,7 +93,7 @@ RefusesNumbers =
     × (plan_of (words (codes "sssp A --source 1 --delta 0")) ≡ None)
     × (plan_of (words (codes "sssp A --source 1 --delta 4294967296")) ≡ None)
 
--- An option that belongs to another algorithm, and a source that is missing.
+-- A file or an option that belongs to another algorithm, and a source that is missing.
 abbrev pub RefusesOtherOptions : Type 0
 RefusesOtherOptions =
     (plan_of (words (codes "bfs A")) ≡ None)
@@ -90,9 +106,12 @@ RefusesOtherOptions =
     × (plan_of (words (codes "forest A --delta 4")) ≡ None)
     × (plan_of (words (codes "colour A --source 1")) ≡ None)
     × (plan_of (words (codes "colour A --delta 4")) ≡ None)
+    × (plan_of (words (codes "grid A --width 2 --height 2 --seed 7")) ≡ None)
+    × (plan_of (words (codes "grid --width 2 --height 2 --seed 7 --source 1")) ≡ None)
+    × (plan_of (words (codes "grid --width 2 --height 2 --seed 7 --parts P")) ≡ None)
 
--- An algorithm that isn't built, and one that is none.
-abbrev pub RefusesWhatIsNotBuilt : Type 0
-RefusesWhatIsNotBuilt =
+-- A name of no algorithm.
+abbrev pub RefusesUnknownAlgorithms : Type 0
+RefusesUnknownAlgorithms =
     (plan_of (words (codes "color A")) ≡ None)
-    × (plan_of (words (codes "grid --width 2 --height 2 --seed 7")) ≡ None)
+    × (plan_of (words (codes "grids --width 2 --height 2 --seed 7")) ≡ None)

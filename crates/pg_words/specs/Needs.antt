@@ -1,5 +1,4 @@
--- Which words each algorithm takes. What isn't built is refused here, and here alone: it is an algorithm that
--- `algorithm_named` doesn't know.
+-- Which words each algorithm takes.
 use Rattle.std.specs.Prelude.{Bool, true, not, ◌&&◌, if◌then◌else◌, Option, Some, None, is_some, option_and_then, List, codes}
 use Rattle.std.specs.Str.{bytes_eq}
 use Rattle.clap.specs.Walk.{Row, Text}
@@ -9,9 +8,8 @@ use Rattle.pg_words.specs.declared.plans.Algorithm.TheVariants.{Bfs, Sssp, Compo
 use Rattle.pg_words.specs.declared.plans.Need.{Need}
 use Rattle.pg_words.specs.declared.plans.Need.TheVariants.{Required, Optional, Refused}
 
--- ---- what is built
+-- ---- the names of the algorithms
 
--- No word means another algorithm yet.
 unfoldable pub algorithm_named : Text → Option Algorithm
 algorithm_named word =
     if bytes_eq word (codes "bfs") then Some Bfs
@@ -19,6 +17,7 @@ algorithm_named word =
     else if bytes_eq word (codes "components") then Some Components
     else if bytes_eq word (codes "forest") then Some Forest
     else if bytes_eq word (codes "colour") then Some Colour
+    else if bytes_eq word (codes "grid") then Some Grid
     else None
 
 -- ---- what each algorithm asks for, besides `--ranks`, `--threads` and `--capacity`, which each takes

@@ -20,6 +20,7 @@ fn algorithm_named(word: &str) -> Option<Algorithm>
         "components" => Some(Algorithm::Components),
         "forest" => Some(Algorithm::Forest),
         "colour" => Some(Algorithm::Colour),
+        "grid" => Some(Algorithm::Grid),
         _ => None,
     }
 }

@@ -236,11 +236,10 @@ fn words_that_are_no_command_line_are_refused(rt: HostRuntime) -> Result<(), Fai
     Ok(())
 }
 
-/// The grid is one of the design's words, and isn't built. `color` is no algorithm's name.
 #[test]
-fn what_is_not_built_is_refused(rt: HostRuntime) -> Result<(), Fail> {
+fn unknown_algorithms_are_refused(rt: HostRuntime) -> Result<(), Fail> {
     let alloc = rt.alloc();
-    for line in ["grid --width 2 --height 2 --seed 7 ", "color A "] {
+    for line in ["grids --width 2 --height 2 --seed 7 ", "color A "] {
         assert!(rt; is_refused(alloc, line)?);
     }
     Ok(())
@@ -264,6 +263,46 @@ fn options_of_other_algorithms_are_refused(rt: HostRuntime) -> Result<(), Fail> 
         "colour A --source 1 ",
         "colour A --delta 4 ",
         "colour A --width 2 ",
+        "grid A --width 2 --height 2 --seed 7 ",
+        "grid --width 2 --height 2 --seed 7 --source 1 ",
+        "grid --width 2 --height 2 --seed 7 --parts P ",
+    ] {
+        assert!(rt; is_refused(alloc, line)?);
+    }
+    Ok(())
+}
+
+#[test]
+fn grids_have_a_size_a_seed_and_a_delta(rt: HostRuntime) -> Result<(), Fail> {
+    let alloc = rt.alloc();
+    for (line, width, height, seed, delta) in [
+        ("grid --width 2 --height 3 --seed 7 ", 2, 3, 7, 32),
+        (
+            "grid --delta=4 --seed=0 --height 1 --width 1048576 ",
+            1_048_576,
+            1,
+            0,
+            4,
+        ),
+        (
+            "--width 1024 grid --height 1024 --seed 4294967295 ",
+            1024,
+            1024,
+            u32::MAX,
+            32,
+        ),
+    ] {
+        let plan = planned(alloc, line)??;
+        assert!(rt; plan.algorithm == Algorithm::Grid && plan.file.as_str() == "");
+        assert!(rt; plan.parts.is_none() && plan.source == 0 && plan.delta == delta);
+        assert!(rt; plan.width == width && plan.height == height && plan.seed == seed);
+    }
+    for line in [
+        "grid ",
+        "grid --width 2 --height 2 ",
+        "grid --width 0 --height 2 --seed 7 ",
+        "grid --width 1025 --height 1024 --seed 7 ",
+        "grid --width 65536 --height 65536 --seed 7 ",
     ] {
         assert!(rt; is_refused(alloc, line)?);
     }

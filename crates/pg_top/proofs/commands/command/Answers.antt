@@ -1,6 +1,6 @@
 use Rattle.std.specs.Io.KnownBytes.{Appends}
 use Rattle.pg_top.proofs.Steps.{Reports-from_write}
-use Rattle.pg_top.proofs.Causes.{malformed, malformed_parts, outside, complete, no_text, no_text_by_parts}
+use Rattle.pg_top.proofs.Causes.{malformed, malformed_parts, outside, complete, complete_grid, no_text, no_text_by_parts}
 use Rattle.pg_top.proofs.Outcomes.{from_ok, from_err}
 use Rattle.pg_top.proofs.commands.command.Goals as goal
 
@@ -21,6 +21,9 @@ returns-in-Err-clause-outside g c = λ plan graph tells out none. rw c.status.en
 
 pub returns-in-Err-clause-complete : goal.returns-in-Err-clause-complete
 returns-in-Err-clause-complete g c = λ plan graph tells inside unread unwritten. rw c.status.ensures (complete _ _ _ plan graph tells inside unread unwritten c.in-Err.fault (from_err c.run-ended.result.0 c.in-Err.fault _ c.in-Err.is c.run-ended.ensures.fails))
+
+pub returns-in-Err-clause-complete_grid : goal.returns-in-Err-clause-complete_grid
+returns-in-Err-clause-complete_grid g c = λ plan planned is unwritten. rw c.status.ensures (complete_grid _ _ _ plan planned is unwritten c.in-Err.fault (from_err c.run-ended.result.0 c.in-Err.fault _ c.in-Err.is c.run-ended.ensures.fails))
 
 pub returns-in-Err-clause-reports : goal.returns-in-Err-clause-reports
 returns-in-Err-clause-reports g c = λ _. (c.in-Err.fault, c.status.ensures, (from_err c.run-ended.result.0 c.in-Err.fault _ c.in-Err.is c.run-ended.ensures.fails), Reports-from_write c.print_fault.result _ _ _ _ _ c.print_fault.ensures.ok c.print_fault.ensures.err c.print_fault.ensures.cause)

@@ -1,7 +1,7 @@
 use Rattle.std.proofs.Common.{sym, subst}
 use Rattle.pg_dist.specs.Sharing.{Sharing}
 use Rattle.pg_top.specs.Relaxed.{HavePlaces}
-use Rattle.pg_top.proofs.BestLemmas.{places_of}
+use Rattle.pg_top.proofs.OverBooks.{places_of}
 use Rattle.pg_top.proofs.solving.relax_over.Goals as goal
 
 pub answers-requires-clause-places : goal.answers-requires-clause-places

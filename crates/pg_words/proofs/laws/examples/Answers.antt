@@ -2,7 +2,7 @@ use Rattle.std.proofs.Common.{refl}
 use Rattle.clap.proofs.OnLiterals.{clap_on_literals}
 use Rattle.pg_text.specs.Text.{decimal_value, number, words}
 use Rattle.pg_words.specs.CommandLine.{bare_command, command, faults_in, found_in, told}
-use Rattle.pg_words.specs.Examples.{RefusesNumbers, RefusesOtherOptions, RefusesWhatIsNotBuilt, RefusesWords, TakesAlgorithms, TakesCommonOptions, TakesWords}
+use Rattle.pg_words.specs.Examples.{RefusesNumbers, RefusesOtherOptions, RefusesUnknownAlgorithms, RefusesWords, TakesAlgorithms, TakesCommonOptions, TakesGrids, TakesWords}
 use Rattle.pg_words.specs.Needs.{algorithm_in, algorithm_named, fits, fits_files, fits_task}
 use Rattle.pg_words.specs.Plan.{crew_in, number_within, numbers_in, plan_as, plan_in, plan_of, search_in, size_in}
 use Rattle.pg_words.proofs.laws.examples.Goals as goal
@@ -19,6 +19,10 @@ common_options : TakesCommonOptions
 unfolding clap_on_literals decimal_value number words bare_command command faults_in found_in told algorithm_in algorithm_named fits fits_files fits_task crew_in number_within numbers_in plan_as plan_in plan_of search_in size_in
 common_options = (refl, refl, refl, refl, refl, refl, refl, refl, refl)
 
+grids : TakesGrids
+unfolding clap_on_literals decimal_value number words bare_command command faults_in found_in told algorithm_in algorithm_named fits fits_files fits_task crew_in number_within numbers_in plan_as plan_in plan_of search_in size_in
+grids = (refl, refl, refl, refl, refl, refl, refl, refl)
+
 refused : RefusesWords
 unfolding clap_on_literals decimal_value number words bare_command command faults_in found_in told algorithm_in algorithm_named fits fits_files fits_task crew_in number_within numbers_in plan_as plan_in plan_of search_in size_in
 refused = (refl, refl, refl, refl, refl, refl, refl, refl, refl, refl)
@@ -29,11 +33,11 @@ numbers = (refl, refl, refl, refl, refl, refl, refl, refl, refl)
 
 other_options : RefusesOtherOptions
 unfolding clap_on_literals decimal_value number words bare_command command faults_in found_in told algorithm_in algorithm_named fits fits_files fits_task crew_in number_within numbers_in plan_as plan_in plan_of search_in size_in
-other_options = (refl, refl, refl, refl, refl, refl, refl, refl, refl, refl)
+other_options = (refl, refl, refl, refl, refl, refl, refl, refl, refl, refl, refl, refl, refl)
 
-not_built : RefusesWhatIsNotBuilt
+unknown : RefusesUnknownAlgorithms
 unfolding clap_on_literals decimal_value number words bare_command command faults_in found_in told algorithm_in algorithm_named fits fits_files fits_task crew_in number_within numbers_in plan_as plan_in plan_of search_in size_in
-not_built = (refl, refl)
+unknown = (refl, refl)
 
 pub returns-clause-taken : goal.returns-clause-taken
 returns-clause-taken c = taken
@@ -44,6 +48,9 @@ returns-clause-algorithms c = algorithms
 pub returns-clause-common_options : goal.returns-clause-common_options
 returns-clause-common_options c = common_options
 
+pub returns-clause-grids : goal.returns-clause-grids
+returns-clause-grids c = grids
+
 pub returns-clause-refused : goal.returns-clause-refused
 returns-clause-refused c = refused
 
@@ -53,5 +60,5 @@ returns-clause-numbers c = numbers
 pub returns-clause-other_options : goal.returns-clause-other_options
 returns-clause-other_options c = other_options
 
-pub returns-clause-not_built : goal.returns-clause-not_built
-returns-clause-not_built c = not_built
+pub returns-clause-unknown : goal.returns-clause-unknown
+returns-clause-unknown c = unknown
