@@ -4,13 +4,14 @@ ghost use Rattle.pg_group.specs.Entries.{Each};
 ghost use Rattle.pg_group.specs.Ranked.{IsOther};
 ghost use Rattle.pg_group.specs.Supersteps.{AreUnmarked};
 ghost use Rattle.pg_cells.specs.declared.phases.Phase.TheVariants.{Filling};
+ghost use Rattle.pg_adj.specs.Division.{Divided};
 ghost use Rattle.pg_bench.specs.Divisions.{HasEdgesBelow};
 ghost use Rattle.pg_bench.specs.Pairs.{EachPair};
 
 use pg_adj::{Part, split};
 use pg_base::{EdgeList, OutOfMemory, RankNo, Ranks};
 use pg_cells::{CellBody, Cells, Flags, LeastWins, Phase};
-use pg_dist::Block;
+use pg_dist::{Block, Distribution};
 use pg_group::{Envelope, Mailbox, Polled, Port, Worked, ports};
 use pg_lane::LaneKind;
 use std::alloc::Global;
@@ -181,7 +182,22 @@ pub fn blocks(alloc: Global, graph: &EdgeList, ranks: Ranks) -> Result<Vec<Part>
     ensures ranks { IfOk result (λ parts. Each (λ rank p. p.ranks ≡ ranks) parts.items) }
     ensures edges { IfOk result (λ parts. All (HasEdgesBelow (length graph.now.edges)) parts.items) }
 {
-    let parts = split(alloc, graph, &Block::new(graph.n(), ranks))?;
+    divided(alloc, graph, &Block::new(graph.n(), ranks))
+}
+
+// The parts of the graph as the distribution divides it. Each arc's edge is one of the graph's.
+fn divided<D: Distribution>(
+    alloc: Global,
+    graph: &EdgeList,
+    dist: &D,
+) -> Result<Vec<Part>, OutOfMemory>
+    requires { graph.now.n ≡ (D.sharing dist.now).n }
+    ensures divided { IfOk result (λ parts. Divided (D.sharing dist.now) graph.now parts.items) }
+    ensures edges { IfOk result (λ parts. All (HasEdgesBelow (length graph.now.edges)) parts.items) }
+{
+    // For the facts that it ensures.
+    let _n = graph.n();
+    let parts = split(alloc, graph, dist)?;
     Ok(parts)
 }
 
