@@ -1,5 +1,5 @@
 //! The texts, as a sink in memory gets them.
-ghost use Rattle.std.specs.Prelude.{◌≤◌, length};
+ghost use Rattle.std.specs.Prelude.{◌≡◌, ◌≤◌, IfOk, length};
 ghost use Rattle.pg_base.specs.declared.TheConstants.{MAX_VERTICES};
 
 use crate::{
@@ -129,7 +129,9 @@ fn each_fault_has_its_line(rt: HostRuntime) -> Result<(), Fail> {
 }
 
 /// 1 --5-- 2 --2-- 3     4
-fn path(alloc: Global) -> Result<EdgeList, Fail> {
+fn path(alloc: Global) -> Result<EdgeList, Fail>
+    ensures { IfOk result (λ graph. length graph.edges ≡ 2) }
+{
     let edges = vec![in alloc;
         Edge { u: 1, v: 2, w: 5 },
         Edge {
