@@ -30,6 +30,9 @@ FILES = {
     "owners": "0\n1\n3\n0\n",
 }
 
+# The summary of a grid of two columns and two rows.
+GRID = "vertices 4\nedges 4\nhops 4 2 4\nweights 4 3805 7477\ncomponents 1\nforest 3 5031\nclashes 0\n"
+
 # Words, status, standard output, standard error. None: not looked at, since it went to a full device.
 RUNS = [
     ("bfs A --source 1", 0, "0\n1\n2\n-\n", ""),
@@ -47,7 +50,11 @@ RUNS = [
     ("components A --source 1", 2, "", "bad words\n"),
     ("forest A --source 1", 2, "", "bad words\n"),
     ("colour A --delta 4", 2, "", "bad words\n"),
-    ("grid --width 2 --height 2 --seed 7", 2, "", "bad words\n"),
+    ("grid --width 2 --height 2", 2, "", "bad words\n"),
+    ("grid A --width 2 --height 2 --seed 7", 2, "", "bad words\n"),
+    ("grid --width 1025 --height 1024 --seed 7", 2, "", "bad words\n"),
+    ("grid --width 2 --height 2 --seed 7", 0, GRID, ""),
+    ("grid --width 2 --height 2 --seed 7 --ranks 3 --threads 2 --capacity 1 --delta 1", 0, GRID, ""),
     ("sssp A --source 1", 0, "0\n5\n7\n-\n", ""),
     ("sssp A --source 1 --delta 1 --ranks 3 --threads 2", 0, "0\n5\n7\n-\n", ""),
     ("components A", 0, "1\n1\n1\n4\n", ""),
