@@ -6,8 +6,8 @@ status that it ends with.
 
 Three lists of runs: one or more for each status that files and streams can bring about (0, 2, 3, 4, 5, 6 and 8);
 each command that README.md shows, against what it shows there; each file of examples/ that holds an answer, also over
-ranks, threads, capacities and a partition file. Colours of more than one rank are looked at for edges with one colour at
-both ends, and for colours above a vertex's degree. One line for each run that differs; the last line is
+ranks, threads, capacities, widths of buckets and a partition file. Colours of more than one rank are looked at for edges
+with one colour at both ends, and for colours above a vertex's degree. One line for each run that differs; the last line is
 `N passed, M failed`, and the status is 1 if any failed.
 
 Without --pbgl it runs bin/pbgl, which proves and builds the program first where it isn't current.
@@ -97,8 +97,9 @@ FULL_RUNS = [
 ]
 
 
-# By which ranks, threads and lanes each example is run besides.
+# By which ranks, threads and lanes each example is run besides; and by which widths of buckets, where there are any.
 CREWS = ["--threads 2", "--ranks 2 --threads 1", "--ranks 3 --capacity 1 --threads 2", "--ranks 7", "--ranks 32 --threads 4"]
+BUCKETS = ["--delta 1 --ranks 2", "--delta 4294967295 --ranks 3 --threads 2"]
 
 
 def run(program, words, folder, out=subprocess.PIPE, errs=subprocess.PIPE):
@@ -132,9 +133,12 @@ def try_statuses(program):
 
 
 def shown_commands(text):
-    """The commands of a page's blocks that run bin/pbgl, each with the lines that the page shows for it."""
+    """The commands of a page's blocks that run bin/pbgl, each with the lines that the page shows for it. Blocks of a
+    language are passed over."""
     found = []
-    for block in re.findall(r"^```\n(.*?)^```$", text, re.M | re.S):
+    for language, block in re.findall(r"^```(\w*)\n(.*?)^```$", text, re.M | re.S):
+        if language:
+            continue
         shown = None
         for line in block.splitlines():
             if line.startswith("$ "):
@@ -161,15 +165,26 @@ def try_page(program, page):
 
 
 def example_words(path):
-    """The words of the run whose answer stands in NAME.ALGORITHM or NAME.ALGORITHM-from-V, without its options."""
+    """The words of the run whose answer stands in NAME.ALGORITHM, NAME.ALGORITHM-from-V or grid-WxH-seed-S.summary, without
+    its options."""
     stem, answer = os.path.splitext(path)
+    if answer == ".summary":
+        return grid_words(os.path.basename(stem))
     algorithm, _, source = answer[1:].partition("-from-")
     return [algorithm, stem + ".graph"] + (["--source", source] if source else [])
 
 
-def example_crews(path):
-    """By which ranks, threads, lanes and partition files an example's graph is run besides, each as a list of words."""
+def grid_words(name):
+    """The words of a run over the grid of this name, grid-WxH-seed-S."""
+    sides = re.fullmatch(r"grid-(\d+)x(\d+)-seed-(\d+)", name).groups()
+    return ["grid"] + [word for pair in zip(("--width", "--height", "--seed"), sides) for word in pair]
+
+
+def example_crews(path, algorithm):
+    """By which ranks, threads, lanes, buckets and partition files an example is run besides, each as a list of words."""
     yield from (line.split() for line in CREWS)
+    if algorithm in ("sssp", "grid"):
+        yield from (line.split() for line in BUCKETS)
     parts = os.path.splitext(path)[0] + ".parts"
     if os.path.exists(parts):
         yield ["--ranks", "3", "--parts", parts]
@@ -195,14 +210,15 @@ def improper(path, done):
 
 
 def try_examples(program):
-    """Each answer that stands beside an example's graph, on one rank and over others."""
-    for algorithm in ("bfs", "sssp", "components", "forest", "colour"):
-        for path in sorted(glob.glob(os.path.join(TOP, "examples", "*.%s*" % algorithm))):
+    """Each answer that stands in examples/, on one rank and over others."""
+    for answer in ("bfs", "sssp", "components", "forest", "colour", "summary"):
+        for path in sorted(glob.glob(os.path.join(TOP, "examples", "*.%s*" % answer))):
             with open(path, encoding="utf-8") as file:
                 wanted = (0, file.read(), "")
             words, name = example_words(path), os.path.relpath(path, TOP)
+            algorithm = words[0]
             yield name, difference(wanted, run(program, words, TOP))
-            for crew in example_crews(path):
+            for crew in example_crews(path, algorithm):
                 done = run(program, words + crew, TOP)
                 wrong = improper(words[1], done) if algorithm == "colour" else difference(wanted, done)
                 yield "%s %s" % (name, " ".join(crew)), wrong
