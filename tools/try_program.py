@@ -224,13 +224,23 @@ def try_examples(program):
                 yield "%s %s" % (name, " ".join(crew)), wrong
 
 
+def is_built(program):
+    """Whether the program refuses to run without words. Where it has to be built, that takes its time here and not in a run
+    that is timed, and what is said of it is handed on."""
+    child = subprocess.Popen([program], stdin=subprocess.DEVNULL, stdout=subprocess.DEVNULL, stderr=subprocess.PIPE,
+                             encoding="utf-8", errors="replace")
+    with child:
+        for line in child.stderr:
+            if line != "bad words\n":
+                print(line, end="", file=sys.stderr, flush=True)
+    return child.returncode == 2
+
+
 def main():
     parser = argparse.ArgumentParser(description=__doc__, formatter_class=argparse.RawDescriptionHelpFormatter)
     parser.add_argument("--pbgl", default=os.path.join(TOP, "bin", "pbgl"))
     program = os.path.abspath(parser.parse_args().pbgl)
-    # Where the program has to be built, that takes its time here and not in a run that is timed.
-    if subprocess.run([program], stdin=subprocess.DEVNULL, stdout=subprocess.DEVNULL,
-                      stderr=subprocess.DEVNULL).returncode != 2:
+    if not is_built(program):
         print("%s isn't there, or doesn't refuse to run without words" % program)
         print("0 passed, 1 failed")
         return 1
