@@ -10,4 +10,3 @@ pub mod OpeningLemmas
 pub mod WholeLemmas
 pub mod DivisionLemmas
 pub mod EndingLemmas
-pub mod SlotLemmas

@@ -25,6 +25,7 @@ use Rattle.pg_relax.specs.declared.ahead.Ahead.{Ahead}
 use Rattle.pg_relax.specs.Tables.{value_at}
 use Rattle.pg_relax.specs.States.{row, local_of, part_of, is_from, is_ahead, due, Relaxes}
 use Rattle.pg_relax.specs.Frontiers.{WasLow, Fell}
+use Rattle.pg_relax.specs.declared.offered.Offered.{Offered}
 use Rattle.pg_relax.specs.Offered.{AreOffered}
 use Rattle.pg_relax.specs.Passing.{Extends, GivesNone, HoldsBack, IsPassed, IsOfferOf, KeepsOver, from_arc}
 use Rattle.pg_relax.proofs.OfferedLemmas.{offered_along}
@@ -170,7 +171,7 @@ module _ (label : Label) (p : Portion) (takes : Places) (handled sent : List (Li
         })
 
   -- the offer is held back, since one as low was sent
-  pub held_keeps : (takes' pending' : Places) (values' offered : List Value) → AreSame takes takes' → AreOffered p sent offered
+  pub held_keeps : (takes' pending' : Places) (values' : List Value) (offered : Offered) → AreSame takes takes' → AreOffered sent offered
       → HoldsBack label.add p offered h.place b values pending values' pending' → Relaxes label p takes' handled sent values' pending' (Some (after h))
   held_keeps takes' pending' values' offered same_takes are is =
       let cell : (i : ℕ) → value_at values' i ≡ value_at values i = λ i. ap (λ vs. value_at vs i) is.same in
@@ -187,14 +188,14 @@ module _ (label : Label) (p : Portion) (takes : Places) (handled sent : List (Li
                 let x_is : Some is.extends.value ≡ Some x = sym is.extends.has ∙ (sym (cell h.place) ∙ has) in
                 let x_same : is.extends.value ≡ x = cc in
                 subst (IsOffered sent here) (is.extends.is ∙ ap (λ z. extended z (label.add b.w)) x_same)
-                (offered_along p sent offered b.home.0 is.offer here are is.known (ap (λ (v : Vertex). v.0) is.to) refl is.place_is);
+                (offered_along sent offered b.home.0 is.offer here are is.known (ap (λ (v : Vertex). v.0) is.to) refl is.place_is);
           }))
         ];
         cells = λ i v x at has. inl (sym (cell i) ∙ has);
         offers = λ to o c. inl c;
       })
 
-  pub pass_keeps : (takes' pending' : Places) (values' offered : List Value) → AreSame takes takes' → AreOffered p sent offered
+  pub pass_keeps : (takes' pending' : Places) (values' : List Value) (offered : Offered) → AreSame takes takes' → AreOffered sent offered
       → IsPassed label.add p offered takes h.place h.share b values pending values' pending' → Relaxes label p takes' handled sent values' pending' (Some (after h))
   pass_keeps takes' pending' values' offered same_takes are (inl none) = none_keeps takes' pending' values' same_takes none
   pass_keeps takes' pending' values' offered same_takes are (inr (inr held)) = held_keeps takes' pending' values' offered same_takes are held
@@ -258,7 +259,7 @@ end_keeps label p takes handled sent h values pending past kept =
     })
 
 -- one arc more is passed
-pub one_more : (label : Label) (p : Portion) (offered : List Value) (takes0 : Places) (values0 : List Value) (pending0 : Places) (ahead : Ahead)
+pub one_more : (label : Label) (p : Portion) (offered : Offered) (takes0 : Places) (values0 : List Value) (pending0 : Places) (ahead : Ahead)
     → (takes : Places) (values : List Value) (pending : Places) (next : ℕ) (takes' : Places) (values' : List Value) (pending' : Places) (b : Arc)
     → IsNext p (from_arc ahead next) b → length values ≡ length p.vertices → AreSame takes takes'
     → IsPassed label.add p offered takes ahead.place ahead.share b values pending values' pending'
@@ -268,7 +269,7 @@ one_more label p offered takes0 values0 pending0 ahead takes values pending next
     pass_keeps label p takes handled sent (from_arc ahead next) b at values pending each (so_far handled sent are kept) takes' pending' values' offered same are passed
 
 -- all arcs were passed
-pub no_more : (label : Label) (p : Portion) (offered : List Value) (takes0 : Places) (values0 : List Value) (pending0 : Places) (ahead : Ahead)
+pub no_more : (label : Label) (p : Portion) (offered : Offered) (takes0 : Places) (values0 : List Value) (pending0 : Places) (ahead : Ahead)
     → (takes : Places) (values : List Value) (pending : Places) (next : ℕ) → length (row p ahead.place) ≤ next
     → KeepsOver offered label p takes0 values0 pending0 (Some ahead) takes values pending (Some (from_arc ahead next))
     → KeepsOver offered label p takes0 values0 pending0 (Some ahead) takes values pending None

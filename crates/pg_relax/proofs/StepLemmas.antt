@@ -25,6 +25,7 @@ use Rattle.pg_relax.specs.States.{row, local_of, is_arc, part_of, is_from, is_ah
 use Rattle.pg_relax.specs.Frontiers.{IsLowered}
 use Rattle.std.specs.Prelude.{IfSome, IfNone}
 use Rattle.pg_base.specs.declared.numbers.RankNo.{RankNo}
+use Rattle.pg_relax.specs.declared.offered.Offered.{Offered}
 use Rattle.pg_relax.specs.Offered.{AreOffered}
 use Rattle.pg_relax.specs.Passing.{KeepsOn, KeepsOver, IsUpTo, from_arc}
 use Rattle.pg_relax.proofs.PassLemmas.{IsNext, send_keeps, end_keeps}
@@ -273,11 +274,11 @@ taken_up p takes takes' values pending pending' place kind ahead t same some non
       left (Some h) some none kept = subst (λ k. Relaxes label p takes' handled sent values pending' (Some k)) (sym some) kept
 
 -- an offer was sent, and the next arcs are ahead
-pub sent_on : (label : Label) (p : Portion) (offered : List Value) (takes takes' : Places) (values values' : List Value) (pending pending' : Places) (ahead : Ahead) (next : ℕ) (to : RankNo) (offer : Offer) (left : Option Ahead)
+pub sent_on : (label : Label) (p : Portion) (offered : Offered) (takes takes' : Places) (values values' : List Value) (pending pending' : Places) (ahead : Ahead) (next : ℕ) (to : RankNo) (offer : Offer) (left : Option Ahead)
     → (sent sent' : List (List (Body Offer))) → IsUpTo label.add p ahead values' next to offer → ahead.place < length p.vertices → length values' ≡ length p.vertices
     → KeepsOver offered label p takes values pending (Some ahead) takes' values' pending' (Some (from_arc ahead next))
     → sent' ≡ append_at sent to.0 (Item offer) → IfSome left (λ h. h ≡ from_arc ahead (next + 1)) → IfNone left (length (row p ahead.place) ≤ next + 1)
-    → (handled : List (List (Body Offer))) → length sent ≡ p.ranks → AreOffered p sent offered
+    → (handled : List (List (Body Offer))) → length sent ≡ p.ranks → AreOffered sent offered
     → Relaxes label p takes handled sent values pending (Some ahead) → Relaxes label p takes' handled sent' values' pending' left
 sent_on label p offered takes takes' values values' pending pending' ahead next to offer left sent sent' up place each keeps grew some none handled long are kept =
     let at : IsNext p (from_arc ahead next) up.arc = record { place = place; next = up.below; is = up.stands; own = up.known } in

@@ -11,6 +11,7 @@ use Rattle.pg_group.specs.declared.messages.Body.{Body}
 use Rattle.pg_group.specs.declared.messages.Body.TheVariants.{Item}
 use Rattle.pg_group.specs.Ranked.{append_at}
 use Rattle.pg_relax.specs.Kept.{IsFitting}
+use Rattle.pg_relax.specs.declared.offered.Offered.{Offered}
 use Rattle.pg_relax.specs.Offered.{IsKnown, IsNoted}
 use Rattle.pg_relax.specs.States.{row}
 
@@ -35,15 +36,15 @@ IsItem p ready pending pending' (Some h) None = ⊤
 IsItem p ready pending pending' (Some h) (Some k) = (k.place ≡ h.place) × (k.share ≡ h.share) × (h.next < k.next)
 
 -- An offer is sent to whose vertex nothing as low was offered before, and it is noted.
-pub record SendsNew (p : Portion) (sent : List (List (Body Offer))) (offered : List Value) (sent' : List (List (Body Offer))) (offered' : List Value) : Type 0 where
+pub record SendsNew (p : Portion) (sent : List (List (Body Offer))) (offered : Offered) (sent' : List (List (Body Offer))) (offered' : Offered) : Type 0 where
   pub to : ℕ
   pub offer : Offer
   pub appended : sent' ≡ append_at sent to (Item offer)
-  pub unknown : IsKnown p offered to offer → ⊥
+  pub unknown : IsKnown offered to offer → ⊥
   pub noted : IsNoted p to offer offered offered'
 
 -- At most one offer is sent, and none that is no better than one before.
-abbrev pub SendsOnlyNew : Portion → List (List (Body Offer)) → List Value → List (List (Body Offer)) → List Value → Type 0
+abbrev pub SendsOnlyNew : Portion → List (List (Body Offer)) → Offered → List (List (Body Offer)) → Offered → Type 0
 SendsOnlyNew p sent offered sent' offered' = ((sent' ≡ sent) × (offered' ≡ offered)) ⊎ SendsNew p sent offered sent' offered'
 
 -- An offer whose place doesn't hold its vertex, or whose value is past the limits, changes nothing.

@@ -17,6 +17,7 @@ use Rattle.pg_relax.specs.declared.ahead.Passed.TheVariants.{All, UpTo}
 use Rattle.pg_relax.specs.States.{row, Relaxes}
 use Rattle.pg_relax.specs.Tables.{value_at}
 use Rattle.pg_relax.specs.Frontiers.{IsLowered}
+use Rattle.pg_relax.specs.declared.offered.Offered.{Offered}
 use Rattle.pg_relax.specs.Offered.{IsKnown, AreOffered}
 
 -- The place has a value, and an arc of this weight extends it to the other one, within the limits.
@@ -44,17 +45,17 @@ pub record LowersOwn (cost : ℕ → ℕ) (rank place : ℕ) (arc : Arc) (values
   pub lowered : IsLowered arc.place end_value values pending values' pending'
 
 -- Nothing changed, and the end is another rank's, to which as low a value was offered before.
-pub record HoldsBack (cost : ℕ → ℕ) (p : Portion) (offered : List Value) (place : ℕ) (arc : Arc) (values : List Value) (pending : Places) (values' : List Value) (pending' : Places) : Type 0 where
+pub record HoldsBack (cost : ℕ → ℕ) (p : Portion) (offered : Offered) (place : ℕ) (arc : Arc) (values : List Value) (pending : Places) (values' : List Value) (pending' : Places) : Type 0 where
   pub other : arc.home.0 ≢ p.rank
   pub offer : Offer
   pub to : offer.to ≡ arc.to
   pub place_is : offer.place ≡ arc.place
   pub extends : Extends cost values place arc.w offer.value
-  pub known : IsKnown p offered arc.home.0 offer
+  pub known : IsKnown offered arc.home.0 offer
   pub same : values' ≡ values
   pub rests : AreSame pending pending'
 
-abbrev pub IsPassed : (ℕ → ℕ) → Portion → List Value → Places → ℕ → Share → Arc → List Value → Places → List Value → Places → Type 0
+abbrev pub IsPassed : (ℕ → ℕ) → Portion → Offered → Places → ℕ → Share → Arc → List Value → Places → List Value → Places → Type 0
 IsPassed cost p offered takes place share arc values pending values' pending' =
     GivesNone cost takes place share arc values pending values' pending'
     ⊎ (LowersOwn cost p.rank place arc values pending values' pending' ⊎ HoldsBack cost p offered place arc values pending values' pending')
@@ -71,10 +72,10 @@ abbrev pub KeepsOn : Label → Portion → Places → List Value → Places → 
 KeepsOn label p takes values pending ahead takes' values' pending' ahead' =
     (handled sent : List (List (Body Offer))) → Relaxes label p takes handled sent values pending ahead → Relaxes label p takes' handled sent values' pending' ahead'
 
--- The same, where what stands for a ghost was offered to it.
-abbrev pub KeepsOver : List Value → Label → Portion → Places → List Value → Places → Option Ahead → Places → List Value → Places → Option Ahead → Type 0
+-- The same, where what stands for a vertex was offered to it.
+abbrev pub KeepsOver : Offered → Label → Portion → Places → List Value → Places → Option Ahead → Places → List Value → Places → Option Ahead → Type 0
 KeepsOver offered label p takes values pending ahead takes' values' pending' ahead' =
-    (handled sent : List (List (Body Offer))) → AreOffered p sent offered
+    (handled sent : List (List (Body Offer))) → AreOffered sent offered
     → Relaxes label p takes handled sent values pending ahead → Relaxes label p takes' handled sent values' pending' ahead'
 
 -- The arcs up to this one were passed, and its end is to be offered to another rank.

@@ -1,5 +1,5 @@
 -- What a relaxation shows of itself, and what it promises.
-use Rattle.std.specs.Prelude.{◌≡◌, ℕ, false, None, List}
+use Rattle.std.specs.Prelude.{◌≡◌, ℕ, false, Some, None, List, slice_get}
 use Rattle.pg_group.specs.declared.messages.Body.{Body}
 use Rattle.pg_label.specs.declared.labels.Label.{Ghosts as LabelGhosts}
 use Rattle.pg_agenda.specs.declared.agendas.Agenda.{Ghosts as AgendaGhosts}
@@ -11,7 +11,8 @@ use Rattle.pg_relax.specs.Rounds.{count_of}
 use Rattle.pg_relax.specs.States.{label_of}
 use Rattle.pg_relax.specs.Kept.{HasRelaxed, IsOpening}
 use Rattle.pg_relax.specs.Offered.{AreOffered}
-use Rattle.pg_relax.specs.Tables.{value_at}
+use Rattle.pg_relax.specs.declared.offered.Told.{Told}
+use Rattle.pg_relax.specs.Tables.{shown}
 use Rattle.pg_relax.specs.Whole.{State}
 
 module _ {L A : Type 0} {l : LabelGhosts L} {a : AgendaGhosts A} where
@@ -49,14 +50,14 @@ module _ {L A : Type 0} {l : LabelGhosts L} {a : AgendaGhosts A} where
     pub idle : r.idle ≡ false
     pub ended : r.ended ≡ false
     pub sends : r.sends ≡ false
-    pub unoffered : (slot : ℕ) → value_at r.offered.table.values.items slot ≡ None
+    pub unoffered : (index : ℕ) (told : Told) → slice_get r.offered.told.items index ≡ Some told → shown told.value ≡ None
 
   -- The part, the label and the arcs that each share takes stay, the law of relaxation holds over what was handled and sent, and
-  -- what stands for a ghost was offered to it.
+  -- what stands for a vertex of another rank was offered to it.
   pub record KeepsRelaxed (start : Relax L A l a) (handled sent : List (List (Body Offer))) (r : Relax L A l a) : Type 0 where
     pub part : r.part ≡ start.part
     pub label : r.label ≡ start.label
     pub takes : AreSame (a.takes start.frontier.agenda) (a.takes r.frontier.agenda)
     pub relaxed : HasRelaxed (label_of (l.start r.label) (l.add r.label)) r.part (a.takes r.frontier.agenda) handled sent r.frontier.table.values.items (a.pending r.frontier.agenda) r.ahead
         (count_of r.rounds) r.cast r.ended r.sends
-    pub offered : AreOffered r.part sent r.offered.table.values.items
+    pub offered : AreOffered sent r.offered

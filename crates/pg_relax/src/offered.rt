@@ -1,106 +1,115 @@
 //! What was offered to the vertices of other ranks.
-ghost use Rattle.std.specs.Prelude.{◌≡◌, ◌<◌, ◌≤◌, ◌^◌, ℕ, true, false, All, AllPairs, length, replicate, slice_get, IfNone, IfOk, IfSome};
-ghost use Rattle.pg_label.specs.Values.{IsWithin};
-ghost use Rattle.pg_relax.specs.Offered.{FindsGhosts, IsGhostOf, IsKnown, IsNoted, IsSlot};
-ghost use Rattle.pg_relax.specs.Tables.{nowhere};
+ghost use Rattle.std.specs.Prelude.{◌≡◌, ◌⊎◌, ◌<◌, ◌≤◌, ◌+◌, ℕ, true, false, length, replicate, IfNone, IfOk, IfSome};
+ghost use Rattle.pg_label.specs.Values.{HasAtMost, IsWithin};
+ghost use Rattle.pg_relax.specs.Offered.{Covers, IsKnown, IsSet, WentAsLow, untold};
+ghost use Rattle.pg_relax.specs.Tables.{shown};
 
-use crate::tables::Table;
-use pg_adj::{Ghost, Part};
-use pg_base::RankNo;
+use crate::tables::{NOWHERE, shown};
+use pg_adj::Part;
+use pg_base::{RankNo, Vertex};
 use pg_best::Offer;
+use pg_label::Value;
 use std::alloc::{AllocError, Global};
 
-/// The least value that was offered to each ghost of a part. Takes 16 bytes a ghost, and 4 bytes for each vertex of the
-/// graph where there are ghosts.
+/// The last offer that was sent to a vertex: its value, and the rank and place where it went. Where none was sent the value is
+/// that of none. Value and way stand together, so that one look at memory finds both.
+#[derive(Clone, Copy)]
+pub(crate) struct Told {
+    pub(crate) value: Value,
+    pub(crate) home: RankNo,
+    pub(crate) place: u32,
+}
+
+const UNTOLD: Told = Told {
+    value: NOWHERE,
+    home: RankNo(0),
+    place: 0,
+};
+
+impl Told {
+    // Whether it went where the offer is to go, with a value that is at most the offer's.
+    fn is_as_low(&self, home: RankNo, offer: &Offer) -> bool
+        ensures low { result ≡ true → WentAsLow self.now home.0 offer.now }
+        ensures not { result ≡ false → WentAsLow self.now home.0 offer.now → ⊥ }
+    {
+        self.home == home && self.place == offer.place && is_at_most(self.value, offer.value)
+    }
+}
+
+// Whether there is a value held, and it is at most the other one.
+fn is_at_most(held: Value, value: Value) -> bool
+    ensures most { result ≡ true → HasAtMost (shown held) value }
+    ensures not { result ≡ false → HasAtMost (shown held) value → ⊥ }
+{
+    match shown(held) {
+        Some(held) => !value.is_below(held),
+        None => false,
+    }
+}
+
+/// What was offered to the vertices from the least ghost of a part to the greatest. Takes 24 bytes for each of them.
 #[derive(Drop)]
 pub(crate) struct Offered {
-    // By vertex, in which slot it is a ghost. An entry counts only where the ghost in that slot is the vertex.
-    pub(crate) slots: Vec<u32>,
-    pub(crate) table: Table,
+    // The vertex of the first entry.
+    pub(crate) first: u32,
+    pub(crate) told: Vec<Told>,
 }
 
 impl Offered {
     /// Nothing was offered yet.
     pub(crate) fn new(alloc: Global, part: &Part) -> Result<Offered, AllocError>
-        ensures nothing { IfOk result (λ offered. offered.table.values.items ≡ replicate (length part.now.ghosts) nowhere) }
-        ensures finds { IfOk result (λ offered. FindsGhosts part.now.ghosts offered.slots.items) }
+        ensures nothing { IfOk result (λ offered. offered.told.items ≡ replicate (length offered.told.items) untold) }
+        ensures covers { IfOk result (λ offered. Covers part.now.ghosts offered.first (length offered.told.items)) }
     {
         let ghosts = part.ghosts();
+        if ghosts.is_empty() {
+            return Ok(Offered {
+                first: 0,
+                told: Vec::new(alloc),
+            });
+        }
+        let first = ghosts[0].vertex.0;
+        let count = (ghosts[ghosts.len() - 1].vertex.0 - first) as usize + 1;
         Ok(Offered {
-            slots: slots_of(alloc, part.n(), ghosts)?,
-            table: Table::new(alloc, ghosts.len())?,
+            first,
+            told: vec![in alloc; UNTOLD; count]?,
         })
     }
 
-    // The slot of the ghost to which the offer goes.
-    fn slot(&self, part: &Part, home: RankNo, offer: &Offer) -> Option<u32>
-        requires finds { FindsGhosts part.now.ghosts self.now.slots.items }
-        ensures some { IfSome result (λ slot. IsSlot part.now slot home.0 offer.now) }
-        ensures within { IfSome result (λ slot. slot < length part.now.ghosts) }
-        ensures one { IfSome result (λ slot. (other : ℕ) → IsSlot part.now other home.0 offer.now → other ≡ slot) }
-        ensures none { IfNone result ((slot : ℕ) → IsSlot part.now slot home.0 offer.now → ⊥) }
+    // The index of the vertex's entry, if it has one.
+    fn index(&self, v: Vertex) -> Option<usize>
+        ensures some { IfSome result (λ index. (self.now.first + index ≡ v.0) × (index < length self.now.told.items)) }
+        ensures none { IfNone result ((index : ℕ) → index < length self.now.told.items → self.now.first + index ≡ v.0 → ⊥) }
     {
-        let slot = entry(&self.slots, offer.to.0)?;
-        let held = entry(part.ghosts(), slot)?;
-        goes_to(&held, home, offer).then_some(slot)
+        let index = v.0.checked_sub(self.first)? as usize;
+        (index < self.told.len()).then_some(index)
     }
 
     /// Whether an offer of at most this value went to the same vertex before.
-    pub(crate) fn has(&self, part: &Part, home: RankNo, offer: &Offer) -> bool
-        requires each { length self.now.table.values.items ≡ length part.now.ghosts }
-        requires finds { FindsGhosts part.now.ghosts self.now.slots.items }
-        ensures known { result ≡ true → IsKnown part.now self.now.table.values.items home.0 offer.now }
-        ensures not { result ≡ false → IsKnown part.now self.now.table.values.items home.0 offer.now → ⊥ }
+    pub(crate) fn has(&self, home: RankNo, offer: &Offer) -> bool
+        ensures known { result ≡ true → IsKnown self.now home.0 offer.now }
+        ensures not { result ≡ false → IsKnown self.now home.0 offer.now → ⊥ }
     {
-        match self.slot(part, home, offer) {
-            Some(slot) => self.table.has_at_most(slot, offer.value),
+        match self.index(offer.to) {
+            Some(index) => self.told[index].is_as_low(home, offer),
             None => false,
         }
     }
 
-    /// Notes that this offer was sent.
-    pub(crate) fn note(&mut self, part: &Part, home: RankNo, offer: &Offer)
-        requires each { length self.old.table.values.items ≡ length part.now.ghosts }
-        requires finds { FindsGhosts part.now.ghosts self.old.slots.items }
+    /// Notes that this offer was sent, where its vertex has an entry.
+    pub(crate) fn note(&mut self, home: RankNo, offer: &Offer)
         requires within { IsWithin offer.now.value }
-        ensures noted { IsNoted part.now home.0 offer.now self.old.table.values.items self.new.table.values.items }
-        ensures same_slots { self.new.slots ≡ self.old.slots }
-        ensures same_count { length self.new.table.values.items ≡ length self.old.table.values.items }
+        ensures changes { (self.new ≡ self.old) ⊎ IsSet home.0 offer.now self.old self.new }
+        ensures known { (index : ℕ) → index < length self.old.told.items → self.old.first + index ≡ offer.now.to.0 → IsKnown self.new home.0 offer.now }
+        ensures same_first { self.new.first ≡ self.old.first }
+        ensures same_count { length self.new.told.items ≡ length self.old.told.items }
     {
-        if let Some(slot) = self.slot(part, home, offer) {
-            self.table.lower(slot, offer.value);
+        if let Some(index) = self.index(offer.to) {
+            self.told[index] = Told {
+                value: offer.value,
+                home,
+                place: offer.place,
+            };
         }
     }
-}
-
-// The entry at an index, if there is one.
-fn entry<T: Copy>(entries: &[T], index: u32) -> Option<T>
-    ensures { result ≡ slice_get entries.now index }
-{
-    entries.get(index as usize).copied()
-}
-
-// Whether the offer goes to this ghost.
-fn goes_to(held: &Ghost, home: RankNo, offer: &Offer) -> bool
-    ensures goes { result ≡ true → IsGhostOf home.0 offer.now held.now }
-    ensures not { result ≡ false → IsGhostOf home.0 offer.now held.now → ⊥ }
-{
-    held.vertex == offer.to && held.home == home && held.place == offer.place
-}
-
-// For each vertex from 0 to n the slot in which it is a ghost. Nothing where there are no ghosts.
-fn slots_of(alloc: Global, n: u32, ghosts: &[Ghost]) -> Result<Vec<u32>, AllocError>
-    requires few { length ghosts.now < 2 ^ 32 }
-    requires held { All (λ g. g.vertex.0 ≤ n) ghosts.now }
-    requires ascend { AllPairs (λ g h. g.vertex.0 < h.vertex.0) ghosts.now }
-    ensures { IfOk result (λ slots. FindsGhosts ghosts.now slots.items) }
-{
-    if ghosts.is_empty() {
-        return Ok(Vec::new(alloc));
-    }
-    let mut slots = vec![in alloc; u32::MAX; n as usize + 1]?;
-    for (slot, held) in ghosts.iter().enumerate() {
-        slots[held.vertex.0 as usize] = slot as u32;
-    }
-    Ok(slots)
 }

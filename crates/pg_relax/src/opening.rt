@@ -22,8 +22,8 @@ use std::alloc::Global;
 
 impl<L: Label + Drop, A: Agenda + Drop> Relax<L, A> {
     /// The relaxation of one part, with a new agenda of as many places. Each own vertex that the label starts has the value of
-    /// its start and is pending. Takes 16 bytes for each own vertex and each ghost, and where there are ghosts 4 bytes for each
-    /// vertex of the graph. `OutOfMemory` comes only where memory is wanting.
+    /// its start and is pending. Takes 16 bytes for each own vertex, and 24 for each vertex from the least ghost to the
+    /// greatest. `OutOfMemory` comes only where memory is wanting.
     pub fn new(alloc: Global, part: Part, label: L, agenda: A) -> Result<Relax<L, A>, OutOfMemory>
         requires none { AreNone (A.pending agenda) }
         requires count { A.count agenda ≡ length part.vertices }

@@ -2,7 +2,7 @@
 ghost use Rattle.std.specs.Prelude.{◌≡◌, ◌<◌, ◌≤◌, Some, None, length, IfNone, IfSome};
 ghost use Rattle.pg_label.specs.Values.{IsWithin};
 ghost use Rattle.pg_agenda.specs.Shares.{AreSame};
-ghost use Rattle.pg_relax.specs.Offered.{FindsGhosts, IsKnown};
+ghost use Rattle.pg_relax.specs.Offered.{IsKnown};
 ghost use Rattle.pg_relax.specs.Passing.{Extends, ExtendsNone, IsPassed, IsOfferOf, IsUpTo, KeepsOver, OnAll, OnUpTo, from_arc};
 ghost use Rattle.pg_relax.specs.States.{label_of};
 
@@ -42,12 +42,10 @@ fn pass<L: Label, A: Agenda>(
 ) -> Option<Offer>
     requires place { ahead.place < length frontier.old.table.values.items }
     requires target { arc.now.home.0 ≡ part.now.rank → arc.now.place < length frontier.old.table.values.items }
-    requires each_ghost { length offered.now.table.values.items ≡ length part.now.ghosts }
-    requires finds { FindsGhosts part.now.ghosts offered.now.slots.items }
-    ensures passed { IfNone result (IsPassed (L.add label.now) part.now offered.now.table.values.items (A.takes frontier.old.agenda) ahead.place ahead.share arc.now
+    ensures passed { IfNone result (IsPassed (L.add label.now) part.now offered.now (A.takes frontier.old.agenda) ahead.place ahead.share arc.now
         frontier.old.table.values.items (A.pending frontier.old.agenda) frontier.new.table.values.items (A.pending frontier.new.agenda)) }
     ensures offer { IfSome result (IsOfferOf (L.add label.now) part.now.rank ahead.place frontier.old.table.values.items arc.now) }
-    ensures unknown { IfSome result (λ offer. IsKnown part.now offered.now.table.values.items arc.now.home.0 offer → ⊥) }
+    ensures unknown { IfSome result (λ offer. IsKnown offered.now arc.now.home.0 offer → ⊥) }
     ensures stays { IfSome result (λ _. frontier.new ≡ frontier.old) }
     ensures same_count { length frontier.new.table.values.items ≡ length frontier.old.table.values.items }
     ensures same_takes { AreSame (A.takes frontier.old.agenda) (A.takes frontier.new.agenda) }
@@ -65,7 +63,7 @@ fn pass<L: Label, A: Agenda>(
         place: arc.place,
         value,
     };
-    if offered.has(part, arc.home, &offer) {
+    if offered.has(arc.home, &offer) {
         return None;
     }
     Some(offer)
@@ -81,16 +79,14 @@ pub(crate) fn next_offer<L: Label, A: Agenda>(
 ) -> Passed
     requires place { ahead.place < length part.now.vertices }
     requires each { length frontier.old.table.values.items ≡ length part.now.vertices }
-    requires each_ghost { length offered.now.table.values.items ≡ length part.now.ghosts }
-    requires finds { FindsGhosts part.now.ghosts offered.now.slots.items }
-    ensures all { OnAll result (KeepsOver offered.now.table.values.items (label_of (L.start label.now) (L.add label.now)) part.now
+    ensures all { OnAll result (KeepsOver offered.now (label_of (L.start label.now) (L.add label.now)) part.now
         (A.takes frontier.old.agenda) frontier.old.table.values.items (A.pending frontier.old.agenda) (Some ahead)
         (A.takes frontier.new.agenda) frontier.new.table.values.items (A.pending frontier.new.agenda) None) }
-    ensures kept { OnUpTo result (λ next to offer. KeepsOver offered.now.table.values.items (label_of (L.start label.now) (L.add label.now)) part.now
+    ensures kept { OnUpTo result (λ next to offer. KeepsOver offered.now (label_of (L.start label.now) (L.add label.now)) part.now
         (A.takes frontier.old.agenda) frontier.old.table.values.items (A.pending frontier.old.agenda) (Some ahead)
         (A.takes frontier.new.agenda) frontier.new.table.values.items (A.pending frontier.new.agenda) (Some (from_arc ahead next))) }
     ensures up_to { OnUpTo result (IsUpTo (L.add label.now) part.now ahead frontier.new.table.values.items) }
-    ensures unknown { OnUpTo result (λ next to offer. IsKnown part.now offered.now.table.values.items to.0 offer → ⊥) }
+    ensures unknown { OnUpTo result (λ next to offer. IsKnown offered.now to.0 offer → ⊥) }
     ensures stays { OnUpTo result (λ next to offer. next ≡ ahead.next → frontier.new ≡ frontier.old) }
     ensures same_count { length frontier.new.table.values.items ≡ length frontier.old.table.values.items }
     ensures same_takes { AreSame (A.takes frontier.old.agenda) (A.takes frontier.new.agenda) }

@@ -62,7 +62,7 @@ impl<L: Label + Send, A: Agenda + Send> Program for Relax<L, A> {
     ghost Keeps = { KeepsRelaxed };
 
     ghost DidItem = { λ old sent new more. IsItem old.part (A.ready old.frontier.agenda) (A.pending old.frontier.agenda) (A.pending new.frontier.agenda) old.ahead new.ahead
-        × SendsOnlyNew old.part sent old.offered.table.values.items more new.offered.table.values.items };
+        × SendsOnlyNew old.part sent old.offered more new.offered };
 
     ghost DidHandle = { λ old from offer new. IsHandled old.part offer old.frontier.table.values.items (A.pending old.frontier.agenda) new.frontier.table.values.items (A.pending new.frontier.agenda) };
 

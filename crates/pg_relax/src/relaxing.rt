@@ -1,7 +1,7 @@
 //! A rank's relaxation.
 ghost use Rattle.std.specs.Prelude.{◌≡◌, ◌<◌, true, None, length};
 ghost use Rattle.std.specs.Option.{ForSome};
-ghost use Rattle.pg_relax.specs.Offered.{FindsGhosts};
+ghost use Rattle.pg_relax.specs.Offered.{Covers};
 ghost use Rattle.pg_relax.specs.States.{row};
 
 use crate::ahead::Ahead;
@@ -33,8 +33,7 @@ pub struct Relax<L: Label, A: Agenda> {
     pub(crate) ended: bool,
     pub(crate) rounds: Rounds,
     ghost each: { length frontier.table.values.items ≡ length part.vertices },
-    ghost each_ghost: { length offered.table.values.items ≡ length part.ghosts },
-    ghost finds: { FindsGhosts part.ghosts offered.slots.items },
+    ghost covers: { Covers part.ghosts offered.first (length offered.told.items) },
     ghost ahead_place: { ForSome ahead (λ h. h.place < length part.vertices) },
     ghost ahead_next: { ForSome ahead (λ h. h.next < length (row part h.place)) },
     ghost rests: { idle ≡ true → ahead ≡ None },

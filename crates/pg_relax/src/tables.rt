@@ -15,11 +15,19 @@ pub(crate) struct Table {
     ghost entries: { AreEntries values.items },
 }
 
-const NOWHERE: Value = Value {
+/// What stands for no value.
+pub(crate) const NOWHERE: Value = Value {
     class: u32::MAX,
     hops: u32::MAX,
     amount: u64::MAX,
 };
+
+/// The value, if it isn't the one that stands for none.
+pub(crate) fn shown(value: Value) -> Option<Value>
+    ensures { result ≡ shown value }
+{
+    (value.hops != u32::MAX).then_some(value)
+}
 
 impl Table {
     /// A table of this many places, none of which has a value.
@@ -37,20 +45,7 @@ impl Table {
         ensures value { result ≡ value_at self.now.values.items place }
         ensures within { IfSome result (λ x. IsWithin x) }
     {
-        let value = self.values[place as usize];
-        (value.hops != u32::MAX).then_some(value)
-    }
-
-    /// Whether the place has a value, and it is at most this one.
-    pub(crate) fn has_at_most(&self, place: u32, value: Value) -> bool
-        requires { place < length self.now.values.items }
-        ensures most { result ≡ true → HasAtMost (value_at self.now.values.items place) value }
-        ensures not { result ≡ false → HasAtMost (value_at self.now.values.items place) value → ⊥ }
-    {
-        match self.value(place) {
-            Some(held) => !value.is_below(held),
-            None => false,
-        }
+        shown(self.values[place as usize])
     }
 
     /// Gives the place this value, if what it has isn't as low. Answers whether it did.

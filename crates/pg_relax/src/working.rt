@@ -8,7 +8,7 @@ ghost use Rattle.pg_group.specs.Supersteps.{AreUnmarked, OnMore, OnIdle, OnBlock
 ghost use Rattle.pg_agenda.specs.Shares.{AreNone, AreSame};
 ghost use Rattle.pg_best.specs.declared.offers.Offer.{Offer};
 ghost use Rattle.pg_relax.specs.Items.{IsItem, IsTakenUp, SendsOnlyNew};
-ghost use Rattle.pg_relax.specs.Offered.{AreOffered, FindsGhosts};
+ghost use Rattle.pg_relax.specs.Offered.{AreOffered, Covers};
 ghost use Rattle.pg_relax.specs.Passing.{KeepsOn};
 ghost use Rattle.pg_relax.specs.States.{Relaxes, label_of, row};
 
@@ -79,20 +79,19 @@ pub(crate) fn go_on<L: Label, A: Agenda, O: Outbox<Offer>>(
 ) -> Went
     requires place { ahead.place < length part.now.vertices }
     requires each { length frontier.old.table.values.items ≡ length part.now.vertices }
-    requires each_ghost { length offered.old.table.values.items ≡ length part.now.ghosts }
-    requires finds { FindsGhosts part.now.ghosts offered.old.slots.items }
+    requires covers { Covers part.now.ghosts offered.old.first (length offered.old.told.items) }
     requires own { O.own out.old ≡ part.now.rank }
     requires size { O.size out.old ≡ part.now.ranks }
     requires unmarked { AreUnmarked (O.marks_sent out.old) }
     ensures kept { (handled : List (List (Body Offer))) → length (O.sent out.old) ≡ part.now.ranks
-        → AreOffered part.now (O.sent out.old) offered.old.table.values.items
+        → AreOffered (O.sent out.old) offered.old
         → Relaxes (label_of (L.start label.now) (L.add label.now)) part.now (A.takes frontier.old.agenda) handled (O.sent out.old) frontier.old.table.values.items (A.pending frontier.old.agenda) (Some ahead)
         → Relaxes (label_of (L.start label.now) (L.add label.now)) part.now (A.takes frontier.new.agenda) handled (O.sent out.new) frontier.new.table.values.items (A.pending frontier.new.agenda) result.ahead }
-    ensures offered { length (O.sent out.old) ≡ part.now.ranks → AreOffered part.now (O.sent out.old) offered.old.table.values.items
-        → AreOffered part.now (O.sent out.new) offered.new.table.values.items }
+    ensures offered { length (O.sent out.old) ≡ part.now.ranks → AreOffered (O.sent out.old) offered.old
+        → AreOffered (O.sent out.new) offered.new }
     ensures sent { result.sent ≡ true → (to : _) × (offer : Offer) × IsOther part.now.rank part.now.ranks to × (O.sent out.new ≡ append_at (O.sent out.old) to (Item offer)) }
     ensures unsent { result.sent ≡ false → O.sent out.new ≡ O.sent out.old }
-    ensures only_new { SendsOnlyNew part.now (O.sent out.old) offered.old.table.values.items (O.sent out.new) offered.new.table.values.items }
+    ensures only_new { SendsOnlyNew part.now (O.sent out.old) offered.old (O.sent out.new) offered.new }
     ensures more { OnMore result.worked (IsItem part.now (A.ready frontier.old.agenda) (A.pending frontier.old.agenda) (A.pending frontier.new.agenda) (Some ahead) result.ahead) }
     ensures not_idle { OnIdle result.worked ⊥ }
     ensures blocked { OnBlocked result.worked (λ to. IsOther part.now.rank part.now.ranks to × O.saw_full out.old to out.new) }
@@ -101,8 +100,8 @@ pub(crate) fn go_on<L: Label, A: Agenda, O: Outbox<Offer>>(
     ensures next_place { ForSome result.ahead (λ h. h.place < length part.now.vertices) }
     ensures next { ForSome result.ahead (λ h. h.next < length (row part.now h.place)) }
     ensures same_count { length frontier.new.table.values.items ≡ length frontier.old.table.values.items }
-    ensures same_slots { offered.new.slots ≡ offered.old.slots }
-    ensures same_ghosts { length offered.new.table.values.items ≡ length offered.old.table.values.items }
+    ensures same_first { offered.new.first ≡ offered.old.first }
+    ensures same_entries { length offered.new.told.items ≡ length offered.old.told.items }
     ensures out_own { O.own out.new ≡ O.own out.old }
     ensures out_size { O.size out.new ≡ O.size out.old }
     ensures out_marks { O.marks_sent out.new ≡ O.marks_sent out.old }
@@ -117,7 +116,7 @@ pub(crate) fn go_on<L: Label, A: Agenda, O: Outbox<Offer>>(
         },
         Passed::UpTo { next, to, offer } => match out.send(to, offer) {
             Ok(()) => {
-                offered.note(part, to, &offer);
+                offered.note(to, &offer);
                 Went {
                     ahead: if_left(
                         part,

@@ -25,7 +25,7 @@ loop-next-preserved g c =
       reached = omega (arith, inv.reached);
       each = said.same_count ∙ inv.each;
       takes = λ share w. said.same_takes share w ∙ inv.takes share w;
-      kept = one_more (label_of (g.L.Label.start c.args.label.now) (g.L.Label.add c.args.label.now)) c.args.part.now c.args.offered.now.table.values.items
+      kept = one_more (label_of (g.L.Label.start c.args.label.now) (g.L.Label.add c.args.label.now)) c.args.part.now c.args.offered.now
           (g.A.Agenda.takes c.args.frontier.now.agenda) c.args.frontier.now.table.values.items (g.A.Agenda.pending c.args.frontier.now.agenda) c.args.ahead
           (g.A.Agenda.takes c.loop-next.frontier.agenda) c.loop-next.frontier.table.values.items (g.A.Agenda.pending c.loop-next.frontier.agenda) k
           (g.A.Agenda.takes c.pass.new.frontier.agenda) c.pass.new.frontier.table.values.items (g.A.Agenda.pending c.pass.new.frontier.agenda) b
@@ -36,7 +36,7 @@ loop-next-preserved g c =
 pub returns-clause-all : goal.returns-clause-all
 returns-clause-all g c =
     let past : length (row c.args.part.now c.args.ahead.place) ≤ c.loop-next.next = omega (arith, c.loop-next-test.false, ap length c.arcs-arcs.ensures.row) in
-    no_more (label_of (g.L.Label.start c.args.label.now) (g.L.Label.add c.args.label.now)) c.args.part.now c.args.offered.now.table.values.items
+    no_more (label_of (g.L.Label.start c.args.label.now) (g.L.Label.add c.args.label.now)) c.args.part.now c.args.offered.now
     (g.A.Agenda.takes c.args.frontier.now.agenda) c.args.frontier.now.table.values.items (g.A.Agenda.pending c.args.frontier.now.agenda) c.args.ahead
     (g.A.Agenda.takes c.loop-next.frontier.agenda) c.loop-next.frontier.table.values.items (g.A.Agenda.pending c.loop-next.frontier.agenda) c.loop-next.next
     past c.loop-next.invariant.kept

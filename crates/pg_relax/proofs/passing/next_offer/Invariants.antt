@@ -10,7 +10,7 @@ invariant-loop-next g l =
       reached : l.fn.ahead.next ≤ l.next;
       each : length l.frontier.table.values.items ≡ length l.part.vertices;
       takes : AreSame (g.A.Agenda.takes l.fn.frontier.agenda) (g.A.Agenda.takes l.frontier.agenda);
-      kept : KeepsOver l.offered.table.values.items (label_of (g.L.Label.start l.label) (g.L.Label.add l.label)) l.part
+      kept : KeepsOver l.offered (label_of (g.L.Label.start l.label) (g.L.Label.add l.label)) l.part
           (g.A.Agenda.takes l.fn.frontier.agenda) l.fn.frontier.table.values.items (g.A.Agenda.pending l.fn.frontier.agenda) (Some l.fn.ahead)
           (g.A.Agenda.takes l.frontier.agenda) l.frontier.table.values.items (g.A.Agenda.pending l.frontier.agenda) (Some (from_arc l.fn.ahead l.next));
       stays : l.next ≡ l.fn.ahead.next → l.frontier ≡ l.fn.frontier;

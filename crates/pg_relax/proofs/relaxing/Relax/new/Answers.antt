@@ -1,7 +1,6 @@
-use Rattle.std.proofs.Common.{◌∙◌, ap, length, refl}
+use Rattle.std.proofs.Common.{◌∙◌, ap, length, refl, slice_get, sym}
 use Rattle.pg_relax.specs.States.{label_of}
-use Rattle.pg_relax.specs.Tables.{value_at}
-use Rattle.pg_relax.proofs.OfferedLemmas.{nothing_stands}
+use Rattle.pg_relax.proofs.OfferedLemmas.{nothing_told}
 use Rattle.pg_relax.proofs.OpeningLemmas.{opening_same}
 use Rattle.pg_relax.proofs.relaxing.Relax.new.Goals as goal
 
@@ -15,5 +14,5 @@ returns-clause-new g c = record {
   idle = refl;
   ended = refl;
   sends = refl;
-  unoffered = λ slot. ap (λ vs. value_at vs slot) c.in-Ok-new.ensures.nothing ∙ nothing_stands (length c.args.part.ghosts) slot;
+  unoffered = λ index told at. nothing_told (length c.in-Ok-new.offered.told.items) index told (ap (λ ts. slice_get ts index) (sym c.in-Ok-new.ensures.nothing) ∙ at);
 }
