@@ -3,7 +3,7 @@
 file of the greatest size and divides its graph among ranks, relaxes over them, lets ranks send each other messages, and
 synchronizes a property map. `pg_queues` sends messages through one lane.
 
-    python3 bench/run.py [--only bfs|algorithms|forest|colour|delta|divide|lane|traffic|cells] [--vertices N] [--edges M]
+    python3 bench/run.py [--only bfs|algorithms|forest|colour|delta|grid|divide|lane|traffic|cells] [--vertices N] [--edges M]
                          [--rounds K] [--beside PROGRAM]
 
 Without --vertices and --edges the files have the sizes that are told here; with --vertices alone, eight edges a vertex.
@@ -31,6 +31,10 @@ may colour otherwise.
 
 delta: `pbgl sssp` runs on the same files with buckets of seven widths, on 1 and on 4 ranks with as many threads. For each
 the least of three interleaved runs counts, as above. What takes more than 60 seconds is cut off.
+
+grid: `pbgl grid` makes a grid of 1,024 by 1,024 by the seed 1, or of so many columns and rows that it has about as many vertices
+as are told, and runs every algorithm over it, on 1, 2 and 4 ranks with as many threads. The least of three interleaved runs counts:
+seconds for the whole and peak memory. The summaries are compared once.
 
 divide: one file has 1,048,576 vertices and 8,388,608 edges by the seeded rule, the other is a band of as many vertices, each
 joined to the next eight. For each number of ranks and each layout the least of three interleaved runs counts: milliseconds
@@ -326,6 +330,19 @@ def deltas(make, folder, given):
             report_phases("%s on %d" % (name, ranks), runs, given.rounds)
 
 
+def grids(make, folder, given):
+    side = str(math.isqrt(given.vertices or 1 << 20))
+    words = [built_pbgl(), "grid", "--width", side, "--height", side, "--seed", "1"]
+    runs = {ranks: words + ["--ranks", str(ranks)] for ranks in (1, 2, 4)}
+    compare("grid", runs)
+    best = {}
+    for _ in range(given.rounds):
+        for ranks, run in runs.items():
+            best[ranks] = least(best.get(ranks), measured(run))
+    for ranks, (seconds, memory) in best.items():
+        print("grid of %s by %s, %d ranks %7.2f s %5.0f MB" % (side, side, ranks, seconds, memory), flush=True)
+
+
 def divisions(make, folder, given):
     vertices, edges = str(1 << 20), str(1 << 23)
     for name, words in {"random": ["random", vertices, edges, "1"], "band": ["band", vertices, "8"]}.items():
@@ -344,7 +361,7 @@ def sizes(given, usual):
 
 
 GRAPH_JOBS = {"bfs": searches, "algorithms": algorithms, "forest": forests, "colour": colours, "delta": deltas,
-              "divide": divisions, "cells": maps}
+              "grid": grids, "divide": divisions, "cells": maps}
 
 
 def main():

@@ -642,20 +642,26 @@ fn a_missing_partition_file_cannot_be_read(rt: HostRuntime) -> Result<(), Fail> 
     Ok(())
 }
 
-/// How often a rank looks for the other one before it goes on.
+/// How often a rank looks for the others before it goes on.
 const LOOKS: u64 = 50_000_000;
 
-/// Holds each of two ranks before its first turn until the other one came there too.
+/// Holds each of at most four ranks before its first turn until the others came there too.
 #[derive(Drop)]
 struct Meeting {
-    came: [AtomicBool; 2],
+    came: [AtomicBool; 4],
     gave_up: AtomicBool,
 }
 
 impl Meeting {
-    fn new() -> Meeting {
+    /// For so many ranks. The others have come from the beginning.
+    fn new(ranks: u32) -> Meeting {
         Meeting {
-            came: [AtomicBool::new(false), AtomicBool::new(false)],
+            came: [
+                AtomicBool::new(ranks < 1),
+                AtomicBool::new(ranks < 2),
+                AtomicBool::new(ranks < 3),
+                AtomicBool::new(ranks < 4),
+            ],
             gave_up: AtomicBool::new(false),
         }
     }
@@ -691,21 +697,32 @@ impl Gate for Meeting {
     }
 }
 
-/// Runs a search over two ranks on two threads, which go through the gate.
+/// Runs the search of a line over the mesh. Its ranks go through the gate.
 fn search_through<W: Threads + Wait + Sync + AllocGlobal, G: Gate>(
     rt: &W,
+    line: &str,
     gate: &G,
 ) -> Result<Seen, Fail> {
     let alloc = rt.alloc();
-    let words = words_of(alloc, "bfs B --source 1 --ranks 2 --threads 2 ")?;
+    let words = words_of(alloc, line)?;
     let named = [("B", MESH)];
     run_over(rt, &words, &named, Vec::new(alloc), Vec::new(alloc), gate)
 }
 
 #[test]
 fn two_threads_drive_two_ranks_side_by_side(rt: HostRuntime) -> Result<(), Fail> {
-    let gate = Meeting::new();
-    let seen = search_through(&rt, &gate)?;
+    let gate = Meeting::new(2);
+    let seen = search_through(&rt, "bfs B --source 1 --ranks 2 --threads 2 ", &gate)?;
+    assert_eq!(rt; seen.out.text(), b"0\n1\n1\n2\n1\n2\n3\n".as_slice());
+    assert_eq!(rt; gate.gave_up(), false);
+    Ok(())
+}
+
+#[test]
+fn four_threads_drive_four_ranks_side_by_side(rt: HostRuntime) -> Result<(), Fail> {
+    let gate = Meeting::new(4);
+    let seen = search_through(&rt, "bfs B --source 1 --ranks 4 --threads 4 ", &gate)?;
+    assert_eq!(rt; seen.status, Status::Ok);
     assert_eq!(rt; seen.out.text(), b"0\n1\n1\n2\n1\n2\n3\n".as_slice());
     assert_eq!(rt; gate.gave_up(), false);
     Ok(())
