@@ -133,9 +133,6 @@ module _ (far : ℕ) (handled sent : List (List (Body Message))) (v : View) (fro
   pub alone_more : list_at (append_at handled from (Item m)) v.part.rank ≡ []
   alone_more = list_at-append_else handled from v.part.rank (Item m) (λ e. other.1 (sym e)) ∙ keeps.alone
 
-vertex_between : (n l : ℕ) → IsVertex n l → IsBetween 1 (n + 1) l
-vertex_between n l vertex = record { from = vertex.first; before = omega (arith, vertex.last) }
-
 module _ (far : ℕ) (handled sent : List (List (Body Message))) (v : View) (from : ℕ) (piece : Piece) (winners : List ℕ) (rank : v.part.rank < v.part.ranks) (other : IsOther v.part.rank v.part.ranks from)
     (merged : AreMerged v piece winners) (keeps : HasChosen far handled sent v) where
   abbrev m : Message
@@ -148,7 +145,7 @@ module _ (far : ℕ) (handled sent : List (List (Body Message))) (v : View) (fro
       → slice_index winners l ≡ winner v.part (append_at handled from (Item m)) (label_of v) v.phase l
   merged_winners stage.Up is running l vertex (inl own) =
       let at : marks (list_at handled from) ≡ 3 * v.phase = marks_here far handled sent v from m rank other keeps running ∙ (ap (λ (s : Stage). 3 * v.phase + stage_no s) is ∙ omega arith) in
-      merged.counting l (vertex_between v.part.n l vertex) (subst (λ (s : Stage). Counts v.part s l) (sym is) own)
+      merged.counting l (subst (λ (s : Stage). Counts v.part s l) (sym is) own)
       ∙ (ap (λ (x : ℕ). min x (given_key l m)) (keeps.winners running l vertex)
       ∙ sym (up_own v.part handled (label_of v) v.phase from m rank (in_here far handled sent v from m rank other keeps) l at own))
   merged_winners stage.Up is running l vertex (inr apart) =
@@ -158,12 +155,12 @@ module _ (far : ℕ) (handled sent : List (List (Body Message))) (v : View) (fro
       ∙ sym (up_other v.part handled (label_of v) v.phase from m rank (in_here far handled sent v from m rank other keeps) l at vertex apart))
   merged_winners stage.Down is running l vertex (inl own) =
       let at : marks (list_at handled from) ≡ 3 * v.phase + 1 = marks_here far handled sent v from m rank other keeps running ∙ ap (λ (s : Stage). 3 * v.phase + stage_no s) is in
-      merged.others l (λ c. (subst (λ (s : Stage). Counts v.part s l) is c) own)
+      merged.others l (λ c. (subst (λ (s : Stage). Counts v.part s l) is c).1 own)
       ∙ (keeps.winners running l vertex
       ∙ sym (down_own v.part handled (label_of v) v.phase from m rank (in_here far handled sent v from m rank other keeps) l at own))
   merged_winners stage.Down is running l vertex (inr apart) =
       let at : marks (list_at handled from) ≡ 3 * v.phase + 1 = marks_here far handled sent v from m rank other keeps running ∙ ap (λ (s : Stage). 3 * v.phase + stage_no s) is in
-      merged.counting l (vertex_between v.part.n l vertex) (subst (λ (s : Stage). Counts v.part s l) (sym is) apart)
+      merged.counting l (subst (λ (s : Stage). Counts v.part s l) (sym is) (vertex, apart))
       ∙ (ap (λ (x : ℕ). min x (given_key l m)) (keeps.winners running l vertex)
       ∙ sym (down_other v.part handled (label_of v) v.phase from m rank (in_here far handled sent v from m rank other keeps) l at vertex apart))
   merged_winners stage.Hook is running l vertex any =
@@ -191,7 +188,7 @@ module _ (far : ℕ) (handled sent : List (List (Body Message))) (v : View) (fro
   same_in stage.Up is to number o at = at
   same_in stage.Down is to number o at =
       numbered_same (slice_index v.known.winners) (slice_index winners) (first_label v.part v.part.rank) (labels_of v.part v.part.rank) number o
-      (λ l own. sym (merged.others l (λ c. (subst (λ (s : Stage). Counts v.part s l) is c) own))) at
+      (λ l own. sym (merged.others l (λ c. (subst (λ (s : Stage). Counts v.part s l) is c).1 own))) at
   same_in stage.Hook is to number o at =
       let same : slice_index winners number ≡ slice_index v.known.winners number = merged.others number (λ c. subst (λ (s : Stage). Counts v.part s number) is c) in
       record {
@@ -205,7 +202,7 @@ module _ (far : ℕ) (handled sent : List (List (Body Message))) (v : View) (fro
   same_back stage.Up is to number o at = at
   same_back stage.Down is to number o at =
       numbered_same (slice_index winners) (slice_index v.known.winners) (first_label v.part v.part.rank) (labels_of v.part v.part.rank) number o
-      (λ l own. merged.others l (λ c. (subst (λ (s : Stage). Counts v.part s l) is c) own)) at
+      (λ l own. merged.others l (λ c. (subst (λ (s : Stage). Counts v.part s l) is c).1 own)) at
   same_back stage.Hook is to number o at =
       let same : slice_index winners number ≡ slice_index v.known.winners number = merged.others number (λ c. subst (λ (s : Stage). Counts v.part s number) is c) in
       record {

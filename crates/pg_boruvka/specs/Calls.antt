@@ -3,6 +3,7 @@ use Rattle.std.specs.Prelude.{◌≡◌, ◌≢◌, ◌⊎◌, ℕ, ◌+◌, ◌
 use Rattle.pg_group.specs.declared.messages.Body.{Body}
 use Rattle.pg_group.specs.declared.messages.Body.TheVariants.{Item}
 use Rattle.pg_group.specs.Ranked.{IsOther, append_at}
+use Rattle.pg_adj.specs.Portions.{IsVertex}
 use Rattle.pg_boruvka.specs.declared.TheConstants.{NO_KEY}
 use Rattle.pg_boruvka.specs.declared.messages.Hook.{Hook}
 use Rattle.pg_boruvka.specs.declared.messages.Piece.{Piece}
@@ -22,20 +23,21 @@ use Rattle.pg_boruvka.specs.Shown.{IsAt, IsPassed}
 abbrev pub IsOwnLabel : Part → ℕ → Type 0
 IsOwnLabel part l = IsBetween (first_label part part.rank) (first_label part part.rank + labels_of part part.rank) l
 
--- A piece counts for own labels in the first round of a phase, and for the others in the second.
+-- A piece counts for own labels in the first round of a phase, and for the other labels of the graph in the second.
 abbrev pub Counts : Part → Stage → ℕ → Type 0
 Counts part stage.Up l = IsOwnLabel part l
-Counts part stage.Down l = IsOwnLabel part l → ⊥
+Counts part stage.Down l = IsVertex part.n l × (IsOwnLabel part l → ⊥)
 Counts part stage.Hook l = ⊥
 
--- The winners of the labels for which the piece counts are lowered to its keys.
+-- The winners of the labels for which the piece counts are lowered to its keys, and no other entry changes.
 pub record AreMerged (v : View) (piece : Piece) (winners : List ℕ) : Type 0 where
-  pub counting : (l : ℕ) → IsBetween 1 (v.part.n + 1) l → Counts v.part v.stage l → slice_index winners l ≡ min (slice_index v.known.winners l) (given_key l (Keys piece))
+  pub counting : (l : ℕ) → Counts v.part v.stage l → slice_index winners l ≡ min (slice_index v.known.winners l) (given_key l (Keys piece))
   pub others : (l : ℕ) → (Counts v.part v.stage l → ⊥) → slice_index winners l ≡ slice_index v.known.winners l
 
--- The hook is noted, where its numbers are in range and hooks count.
+-- The hook is noted, where it comes in the third round of a phase and its numbers are in range. Else nothing changes.
 pub record IsTaken (v : View) (h : Hook) (targets edges : List ℕ) : Type 0 where
   pub within : v.stage ≡ stage.Hook → is_within v.part h ≡ true → IsNoted h v.known.targets v.known.edges targets edges
+  pub early : v.stage ≢ stage.Hook → (targets ≡ v.known.targets) × (edges ≡ v.known.edges)
   pub ignored : is_within v.part h ≡ false → (targets ≡ v.known.targets) × (edges ≡ v.known.edges)
   pub still : AreStill v.known.targets v.known.edges → AreStill targets edges
 
@@ -48,7 +50,7 @@ TookIn old from (Hooked h) new = (targets : List ℕ) × (edges : List ℕ) × I
 abbrev pub DidNoMessage : View → View → Type 0
 DidNoMessage old new = new ≡ passed_to old new.to new.at
 
--- One message of this round was sent, which wasn't passed before.
+-- One message of this round was sent, which wasn't passed before and is passed now.
 pub record SentOne (old : View) (sent : List (List (Body Message))) (new : View) (more : List (List (Body Message))) : Type 0 where
   pub to : ℕ
   pub number : ℕ
@@ -56,6 +58,7 @@ pub record SentOne (old : View) (sent : List (List (Body Message))) (new : View)
   pub other : IsOther old.part.rank old.part.ranks to
   pub unpassed : IsPassed old to number → ⊥
   pub is : IsAt old to number message
+  pub passed : IsPassed new to number
   pub grew : more ≡ append_at sent to (Item message)
   pub rest : DidNoMessage old new
 

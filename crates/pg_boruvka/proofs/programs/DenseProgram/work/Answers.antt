@@ -1,4 +1,4 @@
-use Rattle.std.proofs.Common.{◌≡◌, ℕ, ◌+◌, List, refl, sym, ap, ◌∙◌, subst}
+use Rattle.std.proofs.Common.{◌≡◌, ℕ, ◌+◌, List, refl, sym, ap, ◌∙◌, subst, inr, arith}
 use Rattle.pg_base.specs.declared.TheConstants.{MAX_VERTICES}
 use Rattle.pg_group.specs.declared.messages.Body.{Body}
 use Rattle.pg_group.specs.declared.messages.Body.TheVariants.{Item}
@@ -47,6 +47,7 @@ returns-in-Ok-clause-more g c =
       other = said.other;
       unpassed = unpassed_before v w c.in-Some.to.0 c.in-Some.message said.further said.other said.receiver (at_before v w c.in-Some.to.0 w.at c.in-Some.message said.further.same said.found);
       is = at_before v w c.in-Some.to.0 w.at c.in-Some.message said.further.same said.found;
+      passed = inr (sym said.receiver, omega arith);
       grew = c.in-Ok.ensures.ok;
       rest = ap (λ (x : View). passed_to x w.to (w.at + 1)) said.further.same;
     }
