@@ -1,7 +1,7 @@
 -- The arcs of a part, pushed place after place.
 use Rattle.std.proofs.Common.{◌≡◌, ℕ, suc, ◌+◌, ◌-◌, ◌^◌, ◌<◌, ◌≤◌, List, [], ◌∷◌, ◌++◌, length, All, get_or, map, take, drop, refl, sym, ap, ◌∙◌, subst, arith}
-use Rattle.std.specs.Prelude.{slice_index}
-use Rattle.std.proofs.lemmas.List.{map-append, append_assoc, take_more, take_all}
+use Rattle.std.specs.Prelude.{min, slice_index}
+use Rattle.std.proofs.lemmas.List.{map-append, length-append, length-map, append_assoc, take_more, take_all}
 use Rattle.std.proofs.lemmas.List.Elements.{All-map, All-append, All-take, All-drop, All-push}
 use Rattle.pg_base.specs.Keyed.{row_of}
 use Rattle.pg_adj.specs.declared.arcs.Arc.{Arc}
@@ -76,6 +76,19 @@ placed_more p old now place is pushed ends small = record {
   ends = λ edges below. ends edges below (is.ends edges below);
   small = small is.small;
 }
+
+-- One place more has the arcs of its row more.
+length_more : (p : Portion) (place : ℕ) → length (arcs_below p (place + 1)) ≡ length (arcs_below p place) + length (row_of p.bounds p.arcs place)
+length_more p place =
+    let next : place + 1 ≡ suc place = omega arith in
+    let row : List Arc = row_of p.bounds p.arcs place in
+    ap (λ (i : ℕ). length (arcs_below p i)) next
+    ∙ length-append (arcs_below p place) (map (local_of (slice_index p.vertices place)) row)
+    ∙ ap (λ (x : ℕ). length (arcs_below p place) + x) (length-map row (local_of (slice_index p.vertices place)))
+
+pub counts_more : (p : Portion) (place count : ℕ) (row : List Arc) → count ≡ min (length (arcs_below p place)) (2 ^ 64 - 1) → row ≡ row_of p.bounds p.arcs place
+    → min (count + length row) (2 ^ 64 - 1) ≡ min (length (arcs_below p (place + 1))) (2 ^ 64 - 1)
+counts_more p place count row is row_is = omega (arith, is, ap (λ (xs : List Arc). length xs) row_is, length_more p place)
 
 pub pushing_more : (v : ℕ) (old now new : List DenseArc) (arc : DenseArc) (row : List Arc) (i : ℕ) (d : Arc) → i < length row → arc ≡ dense_of v (get_or row i d) → arc.weight < 2 ^ 32 → new ≡ now ++ arc ∷ []
     → ArePushed v old now row i → (AreSmall old → AreSmall now) → record { pushed : ArePushed v old new row (i + 1); small : AreSmall old → AreSmall new }

@@ -1,5 +1,5 @@
 //! The arcs of a part, with the vertices from which they lead.
-ghost use Rattle.std.specs.Prelude.{◌≡◌, ℕ, ◌+◌, ◌*◌, ◌%◌, ◌^◌, ◌<◌, ◌≤◌, ◌++◌, All, IfOk, OnOk, length, map, sum_by, slice_index};
+ghost use Rattle.std.specs.Prelude.{◌≡◌, ℕ, ◌+◌, ◌-◌, ◌*◌, ◌%◌, ◌^◌, ◌<◌, ◌≤◌, ◌++◌, All, IfOk, OnOk, length, map, min, sum_by, slice_index};
 ghost use Rattle.pg_base.specs.declared.TheConstants.{MAX_EDGES, MAX_VERTICES};
 ghost use Rattle.pg_base.specs.Keyed.{row_of};
 ghost use Rattle.pg_boruvka.specs.Arcs.{local, locals, IsInTables};
@@ -66,7 +66,9 @@ pub(crate) fn arcs_of(alloc: Global, part: &Part) -> Result<Vec<DenseArc>, OutOf
 }
 
 // How many arcs the part has.
-fn count_arcs(part: &Part) -> usize {
+fn count_arcs(part: &Part) -> usize
+    ensures { result ≡ min (length (arcs_below part.now (length part.now.vertices))) (2 ^ 64 - 1) }
+{
     let mut count: usize = 0;
     for place in 0..part.count() {
         count = count.saturating_add(part.arcs(place).len());
