@@ -16,10 +16,16 @@ fn are_nothing(votes: &[Vote]) -> bool
 }
 
 impl Program for Colouring {
-    ghost use Rattle.std.specs.Prelude.{◌≡◌};
+    ghost use Rattle.std.specs.Prelude.{◌≡◌, ◌+◌, true, false, None, Some, List, length, slice_get};
+    ghost use Rattle.pg_group.specs.declared.messages.Body.{Body};
+    ghost use Rattle.pg_group.specs.declared.messages.Body.TheVariants.{Mark};
+    ghost use Rattle.pg_group.specs.Supersteps.{append_marks, append_others, is_stop, OnAgain, OnStop};
+    ghost use Rattle.pg_cells.specs.declared.bodies.CellBody.{CellBody};
+    ghost use Rattle.pg_colour.specs.declared.colouring.Colouring.{Colouring};
     ghost use Rattle.pg_colour.specs.Rounds.{count_of};
-    ghost use Rattle.pg_colour.specs.Shown.{IsNewColouring, KeepsColoured, state_of};
+    ghost use Rattle.pg_colour.specs.Shown.{IsNewColouring, KeepsColoured, part_in, state_of};
     ghost use Rattle.pg_colour.specs.Items.{DoesOne, Handles, IsDone, IsNarrow};
+    ghost use Rattle.pg_colour.specs.Steps.{HasGoneOn, HasStopped, HasVoted, IsVoteOf};
 
     type Body = CellBody;
 
@@ -73,7 +79,22 @@ impl Program for Colouring {
         }
     }
 
-    fn vote(&mut self) -> Vote {
+    /// Ends the work of this round. In a pass `a` is how many vertices were coloured, in a round of refreshes 1.
+    fn vote(&mut self) -> Vote
+        requires idle { self.old.idle ≡ true }
+        requires uncast { self.old.cast ≡ None }
+        ensures kept { (start : Colouring) (handled sent : List (List (Body CellBody))) → KeepsColoured start handled sent self.old
+            → KeepsColoured start handled (append_others (part_in self.old).rank (Mark result) sent) self.new }
+        ensures says { IsVoteOf (part_in self.old) (state_of self.old) result }
+        ensures voted { HasVoted (part_in self.old) result (state_of self.old) (state_of self.new) }
+        ensures cast { self.new.cast ≡ Some result }
+        ensures form { IsNarrow result }
+        ensures same_own { (part_in self.new).rank ≡ (part_in self.old).rank }
+        ensures same_size { (part_in self.new).ranks ≡ (part_in self.old).ranks }
+        ensures same_round { count_of self.new.rounds ≡ count_of self.old.rounds }
+        ensures same_idle { self.new.idle ≡ self.old.idle }
+        ensures same_ended { self.new.ended ≡ self.old.ended }
+    {
         let vote = Vote {
             a: self.amount(),
             b: 0,
@@ -84,7 +105,26 @@ impl Program for Colouring {
         vote
     }
 
-    fn round_end(&mut self, votes: &[Vote]) -> Next {
+    /// Ends the round with the votes of all ranks, also its own. `Stop` comes exactly with a pass in which no rank had a
+    /// vertex to colour.
+    fn round_end(&mut self, votes: &[Vote]) -> Next
+        requires running { self.old.ended ≡ false }
+        requires each { length votes.now ≡ (part_in self.old).ranks }
+        requires mine { slice_get votes.now (part_in self.old).rank ≡ self.old.cast }
+        ensures kept { (start : Colouring) (handled sent : List (List (Body CellBody))) → KeepsColoured start handled sent self.old
+            → KeepsColoured start (append_marks (part_in self.old).rank votes.now handled) sent self.new }
+        ensures stops { OnStop result (HasStopped (part_in self.old) votes.now (state_of self.old) (state_of self.new)) }
+        ensures goes_on { OnAgain result (HasGoneOn (part_in self.old) votes.now (state_of self.old) (state_of self.new)) }
+        ensures stop { self.new.ended ≡ is_stop result }
+        ensures again { OnAgain result (count_of self.new.rounds ≡ count_of self.old.rounds + 1) }
+        ensures uncast { OnAgain result (self.new.cast ≡ None) }
+        ensures not_idle { OnAgain result (self.new.idle ≡ false) }
+        ensures last_round { OnStop result (count_of self.new.rounds ≡ count_of self.old.rounds) }
+        ensures last_vote { OnStop result (self.new.cast ≡ self.old.cast) }
+        ensures same_own { (part_in self.new).rank ≡ (part_in self.old).rank }
+        ensures same_size { (part_in self.new).ranks ≡ (part_in self.old).ranks }
+    {
+        // For the facts that it ensures.
         let _rank = self.part.rank();
         if self.refreshes() {
             self.begin_pass();
