@@ -1,7 +1,7 @@
 -- A colouring of a divided graph ends with proper colours, on one rank those of first fit.
 use Rattle.std.proofs.Common.{◌≡◌, ◌↔◌, ℕ, suc, zero, ◌+◌, ◌-◌, ◌<◌, ◌≤◌, List, [], ◌∷◌, length, map, get_or, refl, sym, ap, ◌∙◌, subst, arith, inl, inr, Option, Some, None}
 use Rattle.std.specs.Prelude.{IfSome, option_and_then, slice_get, slice_index_or, unwrap_or}
-use Rattle.std.proofs.lemmas.Bool.{ne_eqb}
+use Rattle.std.proofs.lemmas.Bool.{cases_lt, ne_eqb}
 use Rattle.std.proofs.lemmas.List.Elements.{All-contains}
 use Rattle.std.proofs.lemmas.Option.{get_or_from_slice_get, slice_get_within}
 use Rattle.pg_base.specs.Graph.{Graph, IsEdge, IsGraph}
@@ -21,9 +21,10 @@ use Rattle.pg_colour.specs.declared.colouring.Colouring.{Colouring}
 use Rattle.pg_colour.specs.LocalColour.{LocalColour, State}
 use Rattle.pg_colour.specs.Shown.{part_in, state_of}
 use Rattle.pg_colour.specs.Whole.{HasEndedOver, IsWholeRun, colour_in, colour_of}
-use Rattle.pg_colour.proofs.Ending.{one_rank_fits_first, whole_is_coloured, whole_is_proper, whole_sees_owners}
+use Rattle.pg_colour.proofs.Ending.{one_rank_fits_first, whole_is_coloured, whole_is_fresh, whole_is_proper, whole_sees_owners}
+use Rattle.pg_colour.proofs.Kept.{are_histories, history_by}
 use Rattle.pg_print.specs.Columns.{column_text}
-use Rattle.pg_top.specs.Coloured.{AreHeld, HavePlaces, IsColouring, SeeOwners, held_colour}
+use Rattle.pg_top.specs.Coloured.{AreHeld, AreKeptFresh, HavePlaces, IsColouring, SeeOwners, held_colour, shown_by, states_of}
 use Rattle.pg_top.specs.Relaxed.{AreInOrder}
 use Rattle.pg_top.specs.Text.{AreColours, IsColourText}
 use Rattle.pg_top.specs.Work.{HasColours, IsColouredBy, SpellsColours}
@@ -105,9 +106,12 @@ module _ (s : Sharing) (g : Graph) (capacity : ℕ) (programs : List Colouring) 
       let same : slice_index_or run.parts (s.owner v) (part_in p) ≡ part_in p = got run.parts (s.owner v) (part_in p) (part_in p) (part_stays (s.owner v) p at) in
       omega (arith, laws.local_below v first last, part.share.count, ap (λ (q : Portion). length q.vertices) same)
 
-  module _ (laws : IsSharing s) (is : IsGraph g) (same : g.n ≡ s.n) (d : Colouring) where
+  module _ (laws : IsSharing s) (is : IsGraph g) (same : g.n ≡ s.n) where
     abbrev states : ℕ → State
-    states r = state_of (slice_index_or programs r d)
+    states = states_of programs
+
+    shown : (r : ℕ) (p : Colouring) → slice_get programs r ≡ Some p → states r ≡ state_of p
+    shown r p at = ap shown_by at
 
     here : (r : ℕ) → r < s.ranks → (q : Colouring) × (slice_get programs r ≡ Some q)
     here r h = entry_below programs r (omega (arith, h, run.run.count))
@@ -120,7 +124,7 @@ module _ (s : Sharing) (g : Graph) (capacity : ℕ) (programs : List Colouring) 
         let k = run.run.kept r q.0 q.1 o.0 o.1 in
         let there = part_stays r q.0 q.1 in
         let is_part : part_in q.0 ≡ p = cc in
-        subst (λ x. HasEndedOver s.ranks r (sent_on s.ranks lanes) (taken_on s.ranks lanes) p (state_of x)) (sym (got programs r q.0 d q.1))
+        subst (λ x. HasEndedOver s.ranks r (sent_on s.ranks lanes) (taken_on s.ranks lanes) p x) (sym (shown r q.0 q.1))
         (record {
           handled = k.handled;
           promised = k.promised;
@@ -148,7 +152,7 @@ module _ (s : Sharing) (g : Graph) (capacity : ℕ) (programs : List Colouring) 
     cell_is_held : (v : ℕ) → 1 ≤ v → v ≤ s.n → held_colour s programs v ≡ colour_in (colour_of s states v)
     cell_is_held v first last =
         let q = here (s.owner v) (laws.owner_is_rank v first last) in
-        ap (option_and_then (λ p. colour_in ((state_of p).own (s.local v)))) q.1 ∙ ap (λ p. colour_in ((state_of p).own (s.local v))) (sym (got programs (s.owner v) q.0 d q.1))
+        ap (option_and_then (λ p. colour_in ((state_of p).own (s.local v)))) q.1 ∙ ap (λ x. colour_in (x.own (s.local v))) (sym (shown (s.owner v) q.0 q.1))
 
     pub held_is : (v : ℕ) → 1 ≤ v → v ≤ s.n → held_colour s programs v ≡ Some (colour_of s states v)
     held_is v first last = cell_is_held v first last ∙ has_colour (colour_of s states v) (whole_is_coloured s g run.parts states _ _ whole v first (omega (arith, last, same)))
@@ -169,7 +173,14 @@ module _ (s : Sharing) (g : Graph) (capacity : ℕ) (programs : List Colouring) 
         let listed : slice_get (ghosts_of s.owner s.local s.n rank (part_in p).arcs) slot ≡ Some remote = ap (λ l. slice_get l slot) (sym list) ∙ ghost in
         let found = ghost_from s.owner s.local s.n rank (part_in p).arcs remote (slot, slice_get_within _ slot remote listed, get_or_from_slice_get _ slot remote remote listed) in
         cell_is_held remote.vertex.0 found.vertex.first found.vertex.last
-        ∙ ap colour_in (sym (whole_sees_owners s g run.parts states _ _ whole rank slot (part_in p) remote there ghost) ∙ ap (λ x. (state_of x).seen slot) (got programs rank p d at))
+        ∙ ap colour_in (sym (whole_sees_owners s g run.parts states _ _ whole rank slot (part_in p) remote there ghost) ∙ ap (λ x. x.seen slot) (shown rank p at))
+
+    pub are_kept_fresh : AreKeptFresh s run.parts programs lanes
+    are_kept_fresh = record {
+      histories = λ r. history_by s g run.parts states _ _ whole r (cases_lt r s.ranks);
+      told = are_histories s g run.parts states _ _ whole;
+      refreshed = λ rank j. whole_is_fresh s g run.parts states _ _ whole (λ r. history_by s g run.parts states _ _ whole r (cases_lt r s.ranks)) (are_histories s g run.parts states _ _ whole) rank j;
+    }
 
 -- ---- the text
 
@@ -190,23 +201,20 @@ all_known (a ∷ answers) each =
     λ k. first k ∷ rest k
 
 module _ (owners : Option (List ℕ)) (ranks capacity : ℕ) (g : Graph) (answers : List (Option ℕ)) (programs : List Colouring) (lanes : List (Settled (Envelope CellBody)))
-    (c : IsColouredBy owners ranks capacity g answers programs lanes) (some : 1 ≤ ranks) (is : IsGraph g) where
+    (c : IsColouredBy owners ranks capacity g answers programs lanes) (is : IsGraph g) where
   n_is : g.n ≡ c.sharing.n
   n_is = sym (distribution_n owners g.n ranks c.sharing c.distribution)
 
   ranks_are : c.sharing.ranks ≡ ranks
   ranks_are = distribution_ranks owners g.n ranks c.sharing c.distribution
 
-  first : (d : Colouring) × (slice_get programs 0 ≡ Some d)
-  first = entry_below programs 0 (omega (arith, some, ranks_are, c.colouring.run.count))
-
   abbrev cell : ℕ → ℕ
-  cell v = colour_of c.sharing (λ r. state_of (slice_index_or programs r first.0)) v
+  cell v = colour_of c.sharing (states_of programs) v
 
   answer_is : (k : ℕ) → k < length answers → slice_index_or answers k None ≡ Some (cell (k + 1))
   answer_is k h =
       let within : k < c.sharing.n = omega (arith, h, c.held.count) in
-      c.held.each k within ∙ held_is c.sharing g capacity programs lanes c.colouring c.laws is n_is first.0 (k + 1) (omega arith) (omega (arith, within))
+      c.held.each k within ∙ held_is c.sharing g capacity programs lanes c.colouring c.laws is n_is (k + 1) (omega arith) (omega (arith, within))
 
   cell_is : (v : ℕ) → 1 ≤ v → v ≤ g.n → cell v ≡ listed (known answers) v
   cell_is v low high =
@@ -221,9 +229,9 @@ module _ (owners : Option (List ℕ)) (ranks capacity : ℕ) (g : Graph) (answer
   are_colours = record {
     proper = record {
       count = length_of_map (λ (a : Option ℕ). unwrap_or a 0) answers ∙ (c.held.count ∙ sym n_is);
-      proper = proper_alike g is cell (listed (known answers)) cell_is (cells_are_proper c.sharing g capacity programs lanes c.colouring c.laws is n_is first.0);
+      proper = proper_alike g is cell (listed (known answers)) cell_is (cells_are_proper c.sharing g capacity programs lanes c.colouring c.laws is n_is);
     };
-    first_fit = λ one. first_fit_alike g is cell (listed (known answers)) cell_is (cells_are_first_fit c.sharing g capacity programs lanes c.colouring c.laws is n_is first.0 (ranks_are ∙ one));
+    first_fit = λ one. first_fit_alike g is cell (listed (known answers)) cell_is (cells_are_first_fit c.sharing g capacity programs lanes c.colouring c.laws is n_is (ranks_are ∙ one));
   }
 
   pub colours_are_had : HasColours owners ranks capacity g answers programs lanes
@@ -232,7 +240,8 @@ module _ (owners : Option (List ℕ)) (ranks capacity : ℕ) (g : Graph) (answer
     listed = sym same_answers;
     right = are_colours;
     coloured = c;
-    ghosts = owners_are_seen c.sharing g capacity programs lanes c.colouring c.laws is n_is first.0;
+    fresh = are_kept_fresh c.sharing g capacity programs lanes c.colouring c.laws is n_is;
+    ghosts = owners_are_seen c.sharing g capacity programs lanes c.colouring c.laws is n_is;
   }
 
   pub colours_are_right : IsColourText ranks g (column_text answers)
@@ -248,6 +257,7 @@ module _ (owners : Option (List ℕ)) (ranks capacity : ℕ) (g : Graph) (answer
       colouring = c.colouring;
       held = subst (λ list. AreHeld c.sharing programs list) (sym same_answers) c.held;
     };
-    ghosts = owners_are_seen c.sharing g capacity programs lanes c.colouring c.laws is n_is first.0;
+    fresh = are_kept_fresh c.sharing g capacity programs lanes c.colouring c.laws is n_is;
+    ghosts = owners_are_seen c.sharing g capacity programs lanes c.colouring c.laws is n_is;
     spelled = ap column_text (sym same_answers);
   }

@@ -1,7 +1,7 @@
 -- A finished colouring of a divided graph: the programs, the lanes, and how they belong together.
 -- Source: Boman, Bozdağ, Catalyurek, Gebremedhin and Manne, A scalable parallel graph coloring algorithm for distributed memory
 -- computers (Euro-Par 2005).
-use Rattle.std.specs.Prelude.{◌≡◌, ℕ, ◌+◌, ◌<◌, ◌≤◌, true, List, length, map, slice_get, slice_index_or, Option, Some, None, option_and_then}
+use Rattle.std.specs.Prelude.{◌≡◌, ℕ, ◌+◌, ◌*◌, ◌<◌, ◌≤◌, true, false, List, [], length, map, slice_get, slice_index_or, Option, Some, None, option_and_then}
 use Rattle.pg_base.specs.Graph.{Graph}
 use Rattle.pg_lane.specs.declared.settling.Settled.{Settled}
 use Rattle.pg_lane.specs.Settled.{settled_capacity}
@@ -17,8 +17,10 @@ use Rattle.pg_adj.specs.Portions.{Portion}
 use Rattle.pg_adj.specs.Division.{Divided}
 use Rattle.pg_cells.specs.declared.bodies.CellBody.{CellBody}
 use Rattle.pg_colour.specs.declared.colouring.Colouring.{Colouring}
+use Rattle.pg_colour.specs.LocalColour.{History, State}
+use Rattle.pg_colour.specs.Passes.{no_colours}
 use Rattle.pg_colour.specs.Shown.{IsNewColouring, KeepsColoured, part_in, state_of}
-use Rattle.pg_colour.specs.Whole.{colour_in}
+use Rattle.pg_colour.specs.Whole.{AreFresh, AreHistories, colour_in}
 
 -- The program has ended, and has kept its promise from its opening state over the lists of the book.
 pub record HasColoured (ranks rank : ℕ) (sent taken : PairLists CellBody) (start now : Colouring) : Type 0 where
@@ -65,3 +67,18 @@ HavePlaces s programs = (v : ℕ) (p : Colouring) → 1 ≤ v → v ≤ s.n → 
 abbrev pub SeeOwners : Sharing → List Colouring → Type 0
 SeeOwners s programs = (rank slot : ℕ) (p : Colouring) (remote : Ghost) → slice_get programs rank ≡ Some p → slice_get (part_in p).ghosts slot ≡ Some remote
     → held_colour s programs remote.vertex.0 ≡ colour_in ((state_of p).seen slot)
+
+-- What the program of a rank shows; nothing where there is none.
+abbrev pub shown_by : Option Colouring → State
+shown_by None = record { round = 0; cast = None; ended = false; list = []; done = 0; own = no_colours; seen = no_colours }
+shown_by (Some p) = state_of p
+
+abbrev pub states_of : List Colouring → ℕ → State
+states_of programs rank = shown_by (slice_get programs rank)
+
+-- In each refreshing round that has ended, the lane from the home of a ghost carried exactly one refresh of it, with the colour that the home
+-- had for it after the pass before. The histories of passes are those that the ranks' promises tell.
+pub record AreKeptFresh (s : Sharing) (parts : List Portion) (programs : List Colouring) (lanes : List (Settled (Envelope CellBody))) : Type 0 where
+  pub histories : ℕ → History
+  pub told : AreHistories s parts (states_of programs) (sent_on s.ranks lanes) (taken_on s.ranks lanes) histories
+  pub refreshed : (rank j : ℕ) → rank < s.ranks → 2 * j + 1 < (states_of programs rank).round → AreFresh parts histories (sent_on s.ranks lanes) j

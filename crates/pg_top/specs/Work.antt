@@ -29,7 +29,7 @@ use Rattle.pg_colour.specs.declared.colouring.Colouring.{Colouring}
 use Rattle.pg_top.specs.declared.columns.Field.{Field}
 use Rattle.pg_top.specs.declared.columns.Field.TheVariants.{Amount, Class}
 use Rattle.pg_top.specs.Distributions.{IsDistribution}
-use Rattle.pg_top.specs.Coloured.{AreHeld, IsColouring, SeeOwners}
+use Rattle.pg_top.specs.Coloured.{AreHeld, AreKeptFresh, IsColouring, SeeOwners}
 use Rattle.pg_top.specs.Grown.{IsGrowth}
 use Rattle.pg_top.specs.Relaxed.{AreAnswers, IsRelaxation, value_of}
 use Rattle.pg_top.specs.Files.{HasInput}
@@ -89,10 +89,11 @@ pub record IsColouredBy (owners : Option (List ℕ)) (ranks capacity : ℕ) (g :
   pub colouring : IsColouring sharing g capacity programs lanes
   pub held : AreHeld sharing programs colours
 
--- The text spells the colours of such a colouring, in which each ghost is seen with its owner's colour.
+-- The text spells the colours of such a colouring, in which the lanes kept the ghosts fresh, and each is seen with its owner's colour.
 pub record SpellsColours (owners : Option (List ℕ)) (ranks capacity : ℕ) (g : Graph) (text : List ℕ) (programs : List Colouring) (lanes : List (Settled (Envelope CellBody))) : Type 0 where
   pub colours : List ℕ
   pub coloured : IsColouredBy owners ranks capacity g (map Some colours) programs lanes
+  pub fresh : AreKeptFresh coloured.sharing coloured.colouring.parts programs lanes
   pub ghosts : SeeOwners coloured.sharing programs
   pub spelled : text ≡ column_text (map Some colours)
 
@@ -101,12 +102,14 @@ pub record HasForest (owners : Option (List ℕ)) (ranks capacity : ℕ) (g : Gr
   pub grown : IsGrownBy owners ranks capacity g programs lanes
   pub held : Each (λ rank p. edges_at g.edges (edges_in p) ≡ tree) programs
 
--- The programs of a colouring, and these are the proper colours that they hold; each ghost is seen with its owner's colour.
+-- The programs of a colouring, and these are the proper colours that they hold; the lanes kept the ghosts fresh, and each is seen with its
+-- owner's colour.
 pub record HasColours (owners : Option (List ℕ)) (ranks capacity : ℕ) (g : Graph) (answers : List (Option ℕ)) (programs : List Colouring) (lanes : List (Settled (Envelope CellBody))) : Type 0 where
   pub colours : List ℕ
   pub listed : answers ≡ map Some colours
   pub right : AreColours ranks g colours
   pub coloured : IsColouredBy owners ranks capacity g answers programs lanes
+  pub fresh : AreKeptFresh coloured.sharing coloured.colouring.parts programs lanes
   pub ghosts : SeeOwners coloured.sharing programs
 
 module _ {L A : Type 0} {l : LabelGhosts L} {a : AgendaGhosts A} {p : ProgramGhosts ByHops Offer} {q : ProgramGhosts ByRoots Offer} where

@@ -1,4 +1,3 @@
-use Rattle.std.proofs.Common.{arith}
 use Rattle.std.specs.Option.{option_map}
 use Rattle.pg_print.specs.Columns.{column_text}
 use Rattle.pg_top.specs.Text.{IsColourText}
@@ -13,7 +12,7 @@ returns-clause-right g c =
     ok_then c.colour_input.result
     (λ r. IsColouredBy owners c.args.crew.now.ranks c.args.crew.now.capacity c.args.input.graph r.colours.of_vertices.items r.finished.programs.items r.finished.lanes.items)
     (λ r. IsColourText c.args.crew.now.ranks c.args.input.graph (column_text r.colours.of_vertices.items)) c.colour_input.ensures
-    (λ r coloured. colours_are_right owners c.args.crew.now.ranks c.args.crew.now.capacity c.args.input.graph r.colours.of_vertices.items r.finished.programs.items r.finished.lanes.items coloured (omega arith) c.n-n.ensures.graph)
+    (λ r coloured. colours_are_right owners c.args.crew.now.ranks c.args.crew.now.capacity c.args.input.graph r.colours.of_vertices.items r.finished.programs.items r.finished.lanes.items coloured c.n-n.ensures.graph)
 
 pub returns-clause-spells : goal.returns-clause-spells
 returns-clause-spells g c =
@@ -21,7 +20,7 @@ returns-clause-spells g c =
     ok_then c.colour_input.result
     (λ r. IsColouredBy owners c.args.crew.now.ranks c.args.crew.now.capacity c.args.input.graph r.colours.of_vertices.items r.finished.programs.items r.finished.lanes.items)
     (λ r. SpellsColours owners c.args.crew.now.ranks c.args.crew.now.capacity c.args.input.graph (column_text r.colours.of_vertices.items) r.finished.programs.items r.finished.lanes.items) c.colour_input.ensures
-    (λ r coloured. colours_are_spelled owners c.args.crew.now.ranks c.args.crew.now.capacity c.args.input.graph r.colours.of_vertices.items r.finished.programs.items r.finished.lanes.items coloured (omega arith) c.n-n.ensures.graph)
+    (λ r coloured. colours_are_spelled owners c.args.crew.now.ranks c.args.crew.now.capacity c.args.input.graph r.colours.of_vertices.items r.finished.programs.items r.finished.lanes.items coloured c.n-n.ensures.graph)
 
 pub returns-clause-has : goal.returns-clause-has
 returns-clause-has g c =
@@ -29,4 +28,4 @@ returns-clause-has g c =
     ok_then c.colour_input.result
     (λ r. IsColouredBy owners c.args.crew.now.ranks c.args.crew.now.capacity c.args.input.graph r.colours.of_vertices.items r.finished.programs.items r.finished.lanes.items)
     (λ r. HasColours owners c.args.crew.now.ranks c.args.crew.now.capacity c.args.input.graph r.colours.of_vertices.items r.finished.programs.items r.finished.lanes.items) c.colour_input.ensures
-    (λ r coloured. colours_are_had owners c.args.crew.now.ranks c.args.crew.now.capacity c.args.input.graph r.colours.of_vertices.items r.finished.programs.items r.finished.lanes.items coloured (omega arith) c.n-n.ensures.graph)
+    (λ r coloured. colours_are_had owners c.args.crew.now.ranks c.args.crew.now.capacity c.args.input.graph r.colours.of_vertices.items r.finished.programs.items r.finished.lanes.items coloured c.n-n.ensures.graph)
