@@ -1,0 +1,4 @@
+pub mod Greatest
+pub mod Degrees
+pub mod Kept
+pub mod Runs

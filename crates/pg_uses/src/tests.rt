@@ -1,0 +1,46 @@
+//! Greatest degrees of small graphs, over several ranks.
+ghost use Rattle.std.specs.Prelude.{◌≡◌, [], ◌∷◌};
+ghost use Rattle.pg_base.specs.Examples.{edge, graph};
+ghost use Rattle.pg_base.specs.Graph.{IsGraph};
+
+use crate::greatest_degree;
+use pg_base::{Edge, EdgeList, Ranks};
+use std::alloc::{AllocError, Global};
+use std::test::Fail;
+
+// Vertex 3 is joined to 1, 2, 4 and 5, and 4 to 5.
+fn star(alloc: Global) -> Result<EdgeList, AllocError> {
+    let edges = vec![in alloc; edge(1, 3), edge(2, 3), edge(3, 4), edge(3, 5), edge(4, 5)]?;
+    is_graph();
+    Ok(EdgeList::new(5, edges))
+}
+
+fn edge(u: u32, v: u32) -> Edge
+    ensures { result ≡ edge u v 1 }
+{
+    Edge { u, v, w: 1 }
+}
+
+// The edges above are those of a graph.
+fn is_graph()
+    ensures { IsGraph (graph 5 (edge 1 3 1 ∷ edge 2 3 1 ∷ edge 3 4 1 ∷ edge 3 5 1 ∷ edge 4 5 1 ∷ [])) }
+{}
+
+#[test]
+fn every_number_of_ranks_finds_the_greatest_degree(rt: HostRuntime) -> Result<(), Fail> {
+    let graph = star(rt.alloc())?;
+    for (count, threads, capacity) in [(1, 1, 1), (2, 2, 1), (3, 2, 1024), (5, 5, 1), (32, 3, 7)] {
+        let ranks = Ranks::new(count).ok_or("no number of ranks")?;
+        let found = greatest_degree(&rt, rt.alloc(), &graph, ranks, threads, capacity)?;
+        assert_eq!(rt; found, 4);
+    }
+    Ok(())
+}
+
+#[test]
+fn a_graph_with_no_vertex_has_degree_0(rt: HostRuntime) -> Result<(), Fail> {
+    let graph = EdgeList::new(0, Vec::new(rt.alloc()));
+    let ranks = Ranks::new(3).ok_or("no number of ranks")?;
+    assert_eq!(rt; greatest_degree(&rt, rt.alloc(), &graph, ranks, 3, 1)?, 0);
+    Ok(())
+}
