@@ -1,4 +1,4 @@
-use Rattle.std.proofs.Common.{◌≡◌, ◌∙◌, length, sym, subst}
+use Rattle.std.proofs.Common.{◌≡◌, ◌∙◌, length, sym, subst, arith}
 use Rattle.pg_group.specs.Book.{IsMarked, IsWhole, KeepsOver}
 use Rattle.pg_run.specs.Machines.{machines_of, opening_of}
 use Rattle.pg_run.specs.Lanes.{sent_on, taken_on}
