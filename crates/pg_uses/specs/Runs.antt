@@ -7,7 +7,10 @@ use Rattle.pg_group.specs.Book.{PairLists, IsWhole, IsMarked}
 use Rattle.pg_group.specs.Entries.{Each}
 use Rattle.pg_group.specs.Ranked.{IsOther, list_at}
 use Rattle.pg_run.specs.Lanes.{sent_on, taken_on}
+use Rattle.pg_base.specs.Graph.{Graph}
+use Rattle.pg_dist.specs.Sharing.{Sharing}
 use Rattle.pg_adj.specs.Portions.{Portion}
+use Rattle.pg_adj.specs.Division.{Divided}
 use Rattle.pg_uses.specs.declared.degrees.Degrees.{Degrees}
 use Rattle.pg_uses.specs.Kept.{IsProgramOf, KeepsDegrees}
 
@@ -34,3 +37,9 @@ pub record IsRunOver (parts : List Portion) (programs : List Degrees) (lanes : L
   pub marks : IsMarked (length parts) (sent_on (length parts) lanes)
   pub kept : Each (λ rank p. (part : Portion) → slice_get parts rank ≡ Some part
       → HasKept (length parts) rank (sent_on (length parts) lanes) (taken_on (length parts) lanes) part p) programs
+
+-- The same over the parts of a graph that is divided by a distribution.
+pub record IsRun (s : Sharing) (g : Graph) (programs : List Degrees) (lanes : List (Settled (Envelope ℕ))) : Type 0 where
+  pub parts : List Portion
+  pub divided : Divided s g parts
+  pub run : IsRunOver parts programs lanes

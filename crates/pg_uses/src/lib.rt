@@ -9,4 +9,4 @@ mod runs;
 mod tests;
 
 pub use degrees::Degrees;
-pub use runs::{greatest_degree, greatest_degree_over};
+pub use runs::{greatest_degree, greatest_degree_over, run_degrees};

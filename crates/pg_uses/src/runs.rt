@@ -4,7 +4,7 @@ ghost use Rattle.pg_group.specs.Entries.{Each};
 ghost use Rattle.pg_adj.specs.Portions.{Portion};
 ghost use Rattle.pg_uses.specs.Degrees.{IsGreatestDegree};
 ghost use Rattle.pg_uses.specs.Kept.{IsProgramOf};
-ghost use Rattle.pg_uses.specs.Runs.{AreInOrder, IsRunOver};
+ghost use Rattle.pg_uses.specs.Runs.{AreInOrder, IsRun, IsRunOver};
 
 use crate::Degrees;
 use pg_adj::{Part, split};
@@ -51,11 +51,33 @@ pub fn greatest_degree_over<W: Threads + Wait + Sync, D: Distribution>(
     requires capacity_at_most { capacity ≤ 1024 }
     ensures { IfOk result (λ d. IsGreatestDegree graph.now d) }
 {
+    let _ranks = dist.ranks().count();
+    let finished = run_degrees(token, alloc, graph, dist, threads, capacity)?;
+    Ok(finished.programs[0].greatest())
+}
+
+/// Divides the graph and runs a program for each rank until all have ended. Each of them knows the greatest degree then. The
+/// programs and the lanes come back: every message was taken, and each program has kept its promise.
+pub fn run_degrees<W: Threads + Wait + Sync, D: Distribution>(
+    token: &W,
+    alloc: Global,
+    graph: &EdgeList,
+    dist: &D,
+    threads: u32,
+    capacity: u32,
+) -> Result<Finished<Degrees>, OutOfMemory>
+    requires n { graph.now.n ≡ (D.sharing dist.now).n }
+    requires threads { 1 ≤ threads }
+    requires capacity_at_least { 1 ≤ capacity }
+    requires capacity_at_most { capacity ≤ 1024 }
+    ensures count { IfOk result (λ f. length f.programs.items ≡ (D.sharing dist.now).ranks) }
+    ensures run { IfOk result (λ f. IsRun (D.sharing dist.now) graph.now f.programs.items f.lanes.items) }
+    ensures each { IfOk result (λ f. Each (λ rank p. IsGreatestDegree graph.now p.greatest) f.programs.items) }
+{
     let _n = graph.n();
     let _ranks = dist.ranks().count();
     let parts = split(alloc, graph, dist)?;
-    let finished = run_over(token, alloc, parts, threads, capacity)?;
-    Ok(finished.programs[0].greatest())
+    run_over(token, alloc, parts, threads, capacity)
 }
 
 // Runs the programs of the parts, one for each rank, until all have ended.

@@ -3,13 +3,14 @@ ghost use Rattle.std.specs.Prelude.{◌≡◌, [], ◌∷◌};
 ghost use Rattle.pg_base.specs.Examples.{edge, graph};
 ghost use Rattle.pg_base.specs.Graph.{IsGraph};
 
-use crate::greatest_degree;
+use crate::{greatest_degree, run_degrees};
 use pg_base::{Edge, EdgeList, Ranks};
+use pg_dist::Block;
 use std::alloc::{AllocError, Global};
 use std::test::Fail;
 
-// Vertex 3 is joined to 1, 2, 4 and 5, and 4 to 5.
-fn star(alloc: Global) -> Result<EdgeList, AllocError> {
+// Vertex 3 is joined to all others, and 4 to 5.
+fn fan(alloc: Global) -> Result<EdgeList, AllocError> {
     let edges = vec![in alloc; edge(1, 3), edge(2, 3), edge(3, 4), edge(3, 5), edge(4, 5)]?;
     is_graph();
     Ok(EdgeList::new(5, edges))
@@ -28,11 +29,31 @@ fn is_graph()
 
 #[test]
 fn every_number_of_ranks_finds_the_greatest_degree(rt: HostRuntime) -> Result<(), Fail> {
-    let graph = star(rt.alloc())?;
+    let graph = fan(rt.alloc())?;
     for (count, threads, capacity) in [(1, 1, 1), (2, 2, 1), (3, 2, 1024), (5, 5, 1), (32, 3, 7)] {
         let ranks = Ranks::new(count).ok_or("no number of ranks")?;
         let found = greatest_degree(&rt, rt.alloc(), &graph, ranks, threads, capacity)?;
         assert_eq!(rt; found, 4);
+    }
+    Ok(())
+}
+
+#[test]
+fn every_rank_knows_it_after_one_message_and_one_mark_on_each_lane(
+    rt: HostRuntime,
+) -> Result<(), Fail> {
+    let graph = fan(rt.alloc())?;
+    let ranks = Ranks::new(3).ok_or("no number of ranks")?;
+    let dist = Block::new(graph.n(), ranks);
+    let finished = run_degrees(&rt, rt.alloc(), &graph, &dist, 3, 1)?;
+    assert_eq!(rt; finished.programs.len(), 3);
+    for program in &finished.programs {
+        assert_eq!(rt; program.greatest(), 4);
+    }
+    assert_eq!(rt; finished.lanes.len(), 6);
+    for lane in &finished.lanes {
+        assert_eq!(rt; lane.pushed(), 2);
+        assert_eq!(rt; lane.left(), 0);
     }
     Ok(())
 }
