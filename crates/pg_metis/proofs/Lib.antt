@@ -27,6 +27,8 @@ pub mod StableSorts
 pub mod Digits
 pub mod Mapped
 pub mod NamedArcs
+pub mod Cursors
+pub mod Splitting
 pub mod Marking
 pub mod MirrorLemmas
 pub mod Weights
@@ -35,6 +37,7 @@ pub mod Runs
 pub mod Matching
 pub mod Settled
 pub mod PairedEdges
+pub mod AscendingEdges
 mod PartLines
 pub mod PartsLemmas
 pub mod PartsReadingLemmas

@@ -28,7 +28,7 @@ module _ {X : Type 0} (P : X → Type 0) where
   first_or_later x xs (inr here) (inr none) = inr (none_first x xs here none)
 
   -- One of the elements has the property, or none has it.
-  some_or_none : ((x : X) → P x ⊎ (P x → ⊥)) → (xs : List X) → ((x : X) × Contains xs x × P x) ⊎ All (λ x. P x → ⊥) xs
+  pub some_or_none : ((x : X) → P x ⊎ (P x → ⊥)) → (xs : List X) → ((x : X) × Contains xs x × P x) ⊎ All (λ x. P x → ⊥) xs
   some_or_none decide [] = inr (λ i d below. absurd (omega arith))
   some_or_none decide (x ∷ xs) = first_or_later x xs (decide x) (some_or_none decide xs)
 

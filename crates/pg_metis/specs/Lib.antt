@@ -1,6 +1,7 @@
 pub mod Ahead
 pub mod Answers
 pub mod Arcs
+pub mod Ascending
 pub mod Content
 pub mod Examples
 pub mod Fault

@@ -4,6 +4,7 @@
 #![tactic(auto)]
 
 mod arcs;
+mod ascending;
 mod content;
 mod faults;
 mod graph_files;

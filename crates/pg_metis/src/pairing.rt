@@ -18,6 +18,7 @@ ghost use Rattle.pg_metis.specs.Mirrors.{AreLowerEdges, AreWeightsTo, edge_forth
 ghost use Rattle.pg_metis.specs.Pairing.{arc_of, arcs_named, AreEdgesOf, AreNamed, IsNamed, OnNotPaired};
 
 use crate::Kind;
+use crate::ascending::ascending_edges;
 use crate::sorting::sort_edges;
 use pg_base::Edge;
 use std::alloc::{AllocError, Global};
@@ -82,6 +83,9 @@ pub(crate) fn edges_of(alloc: Global, n: u32, arcs: Vec<NamedArc>) -> Result<Vec
     ensures ok { IfOk result (λ edges. AreEdgesOf n (arcs_named arcs.items) edges.items) }
     ensures not_paired { OnNotPaired result (λ found. first_unmirrored (arcs_named arcs.items) (arcs_named arcs.items) ≡ Some found) }
 {
+    if let Some(edges) = ascending_edges(alloc, n, &arcs)? {
+        return Ok(edges);
+    }
     let edges = lower_edges(alloc, &arcs)?;
     match first_unpaired(alloc, n, &arcs, &edges)? {
         None => Ok(edges),
@@ -203,7 +207,7 @@ fn match_line(u: u32, arcs: &[NamedArc], edges: &[Edge], place: Place) -> Option
 }
 
 /// The edge of an arc to a greater vertex.
-fn edge_to(arc: NamedArc) -> Edge
+pub(crate) fn edge_to(arc: NamedArc) -> Edge
     ensures { result ≡ edge_forth (arc_of arc) }
 {
     Edge {
