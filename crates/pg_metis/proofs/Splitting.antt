@@ -1,5 +1,5 @@
 -- What one arc more does to the edges of the arcs to greater vertices, and to those of the others.
-use Rattle.std.proofs.Common.{◌≡◌, ◌≢◌, ℕ, ◌+◌, ◌<◌, ◌≤◌, ◌++◌, ◌∙◌, ◌⊎◌, List, [], ◌∷◌, ◌/◌, ltb, length, get_or, set, take, filter, inl, inr, refl, sym, ap, subst, arith, All, AllPairs, Contains}
+use Rattle.std.proofs.Common.{◌≡◌, ℕ, ◌+◌, ◌<◌, ◌≤◌, ◌++◌, ◌∙◌, ◌⊎◌, List, [], ◌∷◌, ◌/◌, ltb, length, get_or, set, take, filter, inl, inr, refl, sym, ap, subst, arith, All, AllPairs, Contains}
 use Rattle.std.proofs.lemmas.Bool.{cases_eq, lt-ltb, le-ltb}
 use Rattle.std.proofs.lemmas.List.{take_all, length-map, length-set, length-take-le, get_or-set_same, get_or-set_other}
 use Rattle.std.proofs.lemmas.List.Elements.{All-nil, All-push}

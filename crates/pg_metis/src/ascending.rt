@@ -1,12 +1,12 @@
-//! The edges of a graph file where the neighbours in each line ascend.
+//! The edges of a graph file where the neighbours ascend in every line.
 //!
 //! The arcs to greater vertices then are the edges in order, and those to lesser vertices come to each lesser end in the
-//! order of its edges. So a cursor for each vertex, which goes through the edges from it, meets them all. To meet them in
-//! the order of the arcs would reach for another place in memory at each. They are put into blocks of lesser ends before,
-//! so that the edges from the vertices of one block stay in the cache. There are as many arcs to a block as edges from
-//! it: its arcs begin where its edges do.
+//! order of its edges. So a cursor for each vertex, which goes through the edges from it, meets them all. In the order of
+//! the arcs each would reach for another place in memory. So they are put into blocks of lesser ends before, and the edges
+//! from the vertices of one block stay in the cache. There are as many arcs to a block as edges from it: the arcs begin
+//! where the edges do.
 
-ghost use Rattle.std.specs.Prelude.{◌≡◌, ◌≢◌, ◌+◌, ◌*◌, ◌/◌, ◌^◌, ◌<◌, ◌≤◌, ◌⊎◌, [], true, false, IfOk, IfSome, length, slice_index, slice_set, All, AllPairs, Contains};
+ghost use Rattle.std.specs.Prelude.{◌≡◌, ◌≢◌, ◌+◌, ◌*◌, ◌/◌, ◌^◌, ◌<◌, ◌≤◌, [], true, IfOk, IfSome, length, slice_index, slice_set, All, AllPairs, Contains};
 ghost use Rattle.pg_base.specs.declared.TheConstants.{MAX_EDGES, MAX_VERTICES};
 ghost use Rattle.pg_base.specs.Graph.{Precedes};
 ghost use Rattle.pg_metis.specs.Ascending.{AreBackOrBlank, IsAtCursor};
@@ -26,8 +26,8 @@ const BLOCKS: u32 = MAX_VERTICES / BLOCK + 1;
 /// Stands where no edge was put yet.
 const BLANK: Edge = Edge { u: 0, v: 0, w: 0 };
 
-/// The edges whose two directions the arcs are, where the arcs to greater vertices ascend in each line, and those to
-/// lesser ones too. `None` tells nothing. Takes time and memory linear in n and the arcs.
+/// The edges whose two directions the arcs are, ascending, where the arcs ascend too. `None` tells nothing of the arcs.
+/// Takes time and memory linear in n and the arcs.
 pub(crate) fn ascending_edges(
     alloc: Global,
     n: u32,

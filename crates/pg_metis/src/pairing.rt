@@ -1,6 +1,7 @@
 //! From the arcs that the lines of a graph file name to its edges: each arc is held against its mirror.
 //!
-//! The arcs to lesser vertices, sorted, are the edges. Vertex by vertex, the arcs of its line to greater vertices have
+//! Where every line ascends, its edges are found without a sort (`ascending`). This is the way for all other files, and
+//! tells what is wrong. The arcs to lesser vertices, sorted, are the edges. Vertex by vertex, the arcs of its line to greater vertices have
 //! to be the edges from it. Where they stand in the edges' order, they are compared side by side. Else the edges leave
 //! marks at their greater ends, and the arcs take them away. So an edge that only the line of its greater end names is
 //! left over when that line is reached.

@@ -1,4 +1,4 @@
-use Rattle.std.proofs.Common.{arith, ap, refl, sym, subst, List, Vec, Global, ◌≡◌, ◌+◌, ◌∙◌, length, take}
+use Rattle.std.proofs.Common.{arith, ap, refl, sym, subst, Vec, Global, ◌+◌, length, take}
 use Rattle.pg_base.specs.declared.edges.Edge.{Edge}
 use Rattle.pg_base.specs.declared.TheConstants.{MAX_VERTICES}
 use Rattle.pg_metis.specs.Ascending.{AreBackOrBlank}
