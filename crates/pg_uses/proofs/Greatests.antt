@@ -39,3 +39,15 @@ greatest_of_greatest P Q x is there back = record {
     | inr at ↦ elim (there x at) [ inl q ↦ inr q | inr none ↦ inl none ]
   ];
 }
+
+pub one_greatest : (Q : ℕ → Type 0) (x y : ℕ) → IsGreatest Q x → IsGreatest Q y → x ≡ y
+one_greatest Q x y a b = elim a.reached [
+  | inl none_x ↦ elim b.reached [
+    | inl none_y ↦ omega (arith, none_x, none_y)
+    | inr at_y ↦ omega (arith, none_x, a.bounds y at_y)
+  ]
+  | inr at_x ↦ elim b.reached [
+    | inl none_y ↦ omega (arith, none_y, b.bounds x at_x)
+    | inr at_y ↦ omega (arith, a.bounds y at_y, b.bounds x at_x)
+  ]
+]

@@ -1,4 +1,5 @@
 pub mod Greatest
 pub mod Degrees
+pub mod DegreeLaws
 pub mod Kept
 pub mod Runs

@@ -3,6 +3,7 @@
 #![tactic(auto)]
 
 mod degrees;
+pub mod laws;
 mod programs;
 mod runs;
 #[cfg(test)]
