@@ -35,7 +35,7 @@ IsItem p ready pending pending' None ahead = IsTakenUp p ready pending pending' 
 IsItem p ready pending pending' (Some h) None = ⊤
 IsItem p ready pending pending' (Some h) (Some k) = (k.place ≡ h.place) × (k.share ≡ h.share) × (h.next < k.next)
 
--- An offer is sent to whose vertex nothing as low was offered before, and it is noted.
+-- An offer is sent for whose vertex nothing as low stands. If it goes to a ghost, it stands then.
 pub record SendsNew (p : Portion) (sent : List (List (Body Offer))) (offered : Offered) (sent' : List (List (Body Offer))) (offered' : Offered) : Type 0 where
   pub to : ℕ
   pub offer : Offer
@@ -43,7 +43,7 @@ pub record SendsNew (p : Portion) (sent : List (List (Body Offer))) (offered : O
   pub unknown : IsKnown offered to offer → ⊥
   pub noted : IsNoted p to offer offered offered'
 
--- At most one offer is sent, and none that is no better than one before.
+-- At most one offer is sent, and none for whose vertex one as low stands.
 abbrev pub SendsOnlyNew : Portion → List (List (Body Offer)) → Offered → List (List (Body Offer)) → Offered → Type 0
 SendsOnlyNew p sent offered sent' offered' = ((sent' ≡ sent) × (offered' ≡ offered)) ⊎ SendsNew p sent offered sent' offered'
 

@@ -39,7 +39,7 @@ pub record IsKnown (offered : Offered) (home : ℕ) (offer : Offer) : Type 0 whe
   pub vertex : offered.first + index ≡ offer.to.0
   pub went : WentAsLow told home offer
 
--- The offer stands for its vertex.
+-- The offer stands for its vertex. (In a divided graph all arcs to a vertex lead one way, so what stood there went that way too.)
 pub record IsSet (home : ℕ) (offer : Offer) (offered offered' : Offered) : Type 0 where
   pub index : ℕ
   pub within : index < length offered.told.items

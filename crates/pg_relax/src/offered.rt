@@ -85,7 +85,7 @@ impl Offered {
         (index < self.told.len()).then_some(index)
     }
 
-    /// Whether an offer of at most this value went to the same vertex before.
+    /// Whether what stands for its vertex went the same way, with at most this value.
     pub(crate) fn has(&self, home: RankNo, offer: &Offer) -> bool
         ensures known { result ≡ true → IsKnown self.now home.0 offer.now }
         ensures not { result ≡ false → IsKnown self.now home.0 offer.now → ⊥ }

@@ -64,7 +64,8 @@ impl<L: Label + Send, A: Agenda + Send> Program for Relax<L, A> {
     ghost DidItem = { λ old sent new more. IsItem old.part (A.ready old.frontier.agenda) (A.pending old.frontier.agenda) (A.pending new.frontier.agenda) old.ahead new.ahead
         × SendsOnlyNew old.part sent old.offered more new.offered };
 
-    ghost DidHandle = { λ old from offer new. IsHandled old.part offer old.frontier.table.values.items (A.pending old.frontier.agenda) new.frontier.table.values.items (A.pending new.frontier.agenda) };
+    ghost DidHandle = { λ old from offer new. IsHandled old.part offer old.frontier.table.values.items (A.pending old.frontier.agenda) new.frontier.table.values.items (A.pending new.frontier.agenda)
+        × (new.offered ≡ old.offered) };
 
     ghost DidNothing = { λ old new. (new.frontier.table.values.items ≡ old.frontier.table.values.items) × AreSame (A.pending old.frontier.agenda) (A.pending new.frontier.agenda) × (new.offered ≡ old.offered) × (new.ahead ≡ old.ahead) × (new.part ≡ old.part) × (new.label ≡ old.label) × (new.sends ≡ old.sends) × (new.cast ≡ old.cast) × (new.ended ≡ old.ended) × (count_of new.rounds ≡ count_of old.rounds) };
 
@@ -118,6 +119,7 @@ impl<L: Label + Send, A: Agenda + Send> Program for Relax<L, A> {
             → KeepsRelaxed start handled (append_others (⟦<Relax<L, A> as Program>⟧.own self.old) (Mark result) sent) self.new }
         ensures cast { ⟦<Relax<L, A> as Program>⟧.cast self.new ≡ Some result }
         ensures form { IsNarrow result }
+        ensures same_offered { self.new.offered ≡ self.old.offered }
         ensures of_agenda { A.IsVote (agenda_in self.old) (state_of self.old).sends result }
         ensures same_own { ⟦<Relax<L, A> as Program>⟧.own self.new ≡ ⟦<Relax<L, A> as Program>⟧.own self.old }
         ensures same_size { ⟦<Relax<L, A> as Program>⟧.size self.new ≡ ⟦<Relax<L, A> as Program>⟧.size self.old }
@@ -138,6 +140,7 @@ impl<L: Label + Send, A: Agenda + Send> Program for Relax<L, A> {
             → KeepsRelaxed start (append_marks (⟦<Relax<L, A> as Program>⟧.own self.old) votes.now handled) sent self.new }
         ensures stops { OnStop result (AreQuiet votes.now) }
         ensures goes_on { OnAgain result (AreQuiet votes.now → ⊥) }
+        ensures same_offered { self.new.offered ≡ self.old.offered }
         ensures agreed { OnAgain result (A.HasBegun (agenda_in self.old) votes.now (agenda_in self.new)) }
         ensures stop { ⟦<Relax<L, A> as Program>⟧.ended self.new ≡ is_stop result }
         ensures again { OnAgain result (⟦<Relax<L, A> as Program>⟧.round self.new ≡ ⟦<Relax<L, A> as Program>⟧.round self.old + 1) }
