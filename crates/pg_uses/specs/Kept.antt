@@ -36,7 +36,7 @@ mark_of (Some vote) = Mark vote ∷ []
 abbrev pub told : Degrees → ℕ → List (Body ℕ)
 told p to = (if nat_lt to p.next then Item p.own ∷ [] else []) ++ mark_of p.cast
 
--- What a program keeps of a run: it knows the greatest of its own number and those handled, and told each other rank its own.
+-- What a program keeps of a run: it knows the greatest of its own number and those handled, and what each other rank was told is `told`.
 pub record KeepsDegrees (start : Degrees) (handled sent : List (List (Body ℕ))) (p : Degrees) : Type 0 where
   pub same_rank : p.rank ≡ start.rank
   pub same_ranks : p.ranks ≡ start.ranks

@@ -35,9 +35,9 @@ impl Program for Degrees {
 
     ghost Keeps = { KeepsDegrees };
 
-    ghost DidItem = { λ old sent new more. TellsOne old sent more };
+    ghost DidItem = { λ old sent new more. TellsOne old sent more × (new.greatest ≡ old.greatest) × (new.own ≡ old.own) };
 
-    ghost DidHandle = { λ old from body new. (new.greatest ≡ max old.greatest body) × (new.own ≡ old.own) };
+    ghost DidHandle = { λ old from body new. (new.greatest ≡ max old.greatest body) × (new.own ≡ old.own) × (new.next ≡ old.next) };
 
     ghost DidNothing = { λ old new. (new.greatest ≡ old.greatest) × (new.own ≡ old.own) × (new.next ≡ old.next) };
 
