@@ -1,4 +1,5 @@
-//! Property maps of all ranks of a group, driven through their ports by hand.
+//! Property maps of all ranks of a group, driven through their ports by hand: a colouring puts to own cells alone, so that
+//! its runs send no value forward that could be measured.
 ghost use Rattle.std.specs.Prelude.{◌≡◌, ◌≤◌, All, IfOk, length};
 ghost use Rattle.pg_group.specs.Entries.{Each};
 ghost use Rattle.pg_group.specs.Ranked.{IsOther};
