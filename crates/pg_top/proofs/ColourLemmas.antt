@@ -21,7 +21,7 @@ use Rattle.pg_colour.specs.declared.colouring.Colouring.{Colouring}
 use Rattle.pg_colour.specs.LocalColour.{LocalColour, State}
 use Rattle.pg_colour.specs.Shown.{part_in, state_of}
 use Rattle.pg_colour.specs.Whole.{HasEndedOver, IsWholeRun, colour_in, colour_of}
-use Rattle.pg_colour.proofs.Ending.{one_rank_fits_first, whole_is_coloured, whole_is_fresh, whole_is_proper, whole_sees_owners}
+use Rattle.pg_colour.proofs.Ending.{one_rank_fits_first, whole_is_coloured, whole_is_fresh, whole_is_proper, whole_is_sound, whole_sees_owners}
 use Rattle.pg_colour.proofs.Kept.{are_histories, history_by}
 use Rattle.pg_print.specs.Columns.{column_text}
 use Rattle.pg_top.specs.Coloured.{AreHeld, AreKeptFresh, HavePlaces, IsColouring, SeeOwners, held_colour, shown_by, states_of}
@@ -179,6 +179,7 @@ module _ (s : Sharing) (g : Graph) (capacity : ℕ) (programs : List Colouring) 
     are_kept_fresh = record {
       histories = λ r. history_by s g run.parts states _ _ whole r (cases_lt r s.ranks);
       told = are_histories s g run.parts states _ _ whole;
+      sound = λ r p at. whole_is_sound s g run.parts states _ _ whole r p at (are_histories s g run.parts states _ _ whole r p at).0;
       refreshed = λ rank j. whole_is_fresh s g run.parts states _ _ whole (λ r. history_by s g run.parts states _ _ whole r (cases_lt r s.ranks)) (are_histories s g run.parts states _ _ whole) rank j;
     }
 

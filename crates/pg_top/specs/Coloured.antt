@@ -19,6 +19,7 @@ use Rattle.pg_cells.specs.declared.bodies.CellBody.{CellBody}
 use Rattle.pg_colour.specs.declared.colouring.Colouring.{Colouring}
 use Rattle.pg_colour.specs.LocalColour.{History, State}
 use Rattle.pg_colour.specs.Passes.{no_colours}
+use Rattle.pg_colour.specs.Refreshed.{AreSound}
 use Rattle.pg_colour.specs.Shown.{IsNewColouring, KeepsColoured, part_in, state_of}
 use Rattle.pg_colour.specs.Whole.{AreFresh, AreHistories, colour_in}
 
@@ -77,8 +78,10 @@ abbrev pub states_of : List Colouring → ℕ → State
 states_of programs rank = shown_by (slice_get programs rank)
 
 -- In each refreshing round that has ended, the lane from the home of a ghost carried exactly one refresh of it, with the colour that the home
--- had for it after the pass before. The histories of passes are those that the ranks' promises tell.
+-- had for it after the pass before. The histories are those that the ranks' promises tell, of the passes that they made, as nothing but
+-- refreshes from their homes was handled.
 pub record AreKeptFresh (s : Sharing) (parts : List Portion) (programs : List Colouring) (lanes : List (Settled (Envelope CellBody))) : Type 0 where
   pub histories : ℕ → History
   pub told : AreHistories s parts (states_of programs) (sent_on s.ranks lanes) (taken_on s.ranks lanes) histories
+  pub sound : (rank : ℕ) (p : Portion) (at : slice_get parts rank ≡ Some p) → AreSound p (told rank p at).0.handled
   pub refreshed : (rank j : ℕ) → rank < s.ranks → 2 * j + 1 < (states_of programs rank).round → AreFresh parts histories (sent_on s.ranks lanes) j
