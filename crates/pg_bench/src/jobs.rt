@@ -1,3 +1,4 @@
+//! What the words of a measurement ask for.
 ghost use Rattle.std.specs.Prelude.{◌≡◌, length};
 
 use crate::layouts::Layout;
@@ -119,7 +120,7 @@ impl Crew {
 
 impl<'a> Job<'a> {
     /// The job of the words `FILE RANKS block|random`, `traffic RANKS ROUNDS`, `cells FILE RANKS`,
-    /// `relax FILE bfs|sssp|components RANKS THREADS [DELTA]`, where `DELTA` is for sssp alone, 32 where it is not told,
+    /// `relax FILE bfs|sssp|components RANKS THREADS [DELTA]`, where `DELTA` is for sssp alone, 32 where it is not given,
     /// `forest FILE RANKS THREADS` or `colour FILE RANKS THREADS`. `None` for all others.
     pub fn of_words(words: &'a [String]) -> Option<Job<'a>> {
         match words.len() {

@@ -1,3 +1,4 @@
+//! How vertices are divided among ranks in a measurement.
 ghost use Rattle.std.specs.Prelude.{◌≡◌, ◌<◌, All, IfOk, vec_len};
 
 use pg_base::Ranks;

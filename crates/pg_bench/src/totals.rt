@@ -1,3 +1,4 @@
+//! Sums over the parts of a division.
 ghost use Rattle.std.specs.Prelude.{◌≡◌, length};
 ghost use Rattle.std.specs.List.{sum_by};
 ghost use Rattle.pg_bench.specs.Counts.{capped, arcs_in, cells_in, holders_in};

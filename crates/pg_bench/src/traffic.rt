@@ -1,3 +1,4 @@
+//! How fast small messages move between ranks.
 ghost use Rattle.std.specs.Prelude.{◌≡◌, ◌≤◌, ◌%◌, ◌^◌, IfOk, length};
 ghost use Rattle.std.specs.List.{sum_by};
 ghost use Rattle.pg_group.specs.Entries.{Each};

@@ -1,3 +1,4 @@
+//! Grids by hand.
 ghost use Rattle.std.specs.Prelude.{◌≡◌, ◌*◌, ◌≤◌};
 ghost use Rattle.pg_base.specs.declared.TheConstants.{MAX_VERTICES};
 

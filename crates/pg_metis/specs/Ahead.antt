@@ -5,7 +5,7 @@ use Rattle.pg_text.specs.Coming.{coming}
 use Rattle.pg_text.specs.declared.readers.LineReader.{LineReader}
 use Rattle.pg_metis.specs.Content.{Content, NumberedLine, content_after}
 
--- The content ahead of a reader of lines, where the input tells what it has left.
+-- The content ahead of a reader of lines, where the input makes known what it has left.
 unfoldable pub content_ahead : LineReader → Option (List ℕ) → Option Content
 content_ahead reader left = option_map (content_after reader.lines) (coming reader left)
 

@@ -23,7 +23,7 @@ abbrev pub OnFailed : {A : Type 0} → Result A GraphFault → Type 0 → Type 0
 OnFailed (Err Failed) P = P
 OnFailed _ P = ⊤
 
--- The answer is this refusal, unless a read failed or memory was wanting.
+-- The answer is this refusal, unless a read failed or memory was short.
 abbrev pub IsRefusedAs : {A : Type 0} → Result A GraphFault → Fault → Type 0
 IsRefusedAs (Ok x) fault = ⊥
 IsRefusedAs (Err (Refused l k)) fault = (l ≡ fault.line) × (k ≡ fault.kind)

@@ -15,7 +15,7 @@ format_in format = record { sizes = format.sizes; vertex_weights = format.vertex
 abbrev pub header_in : HeaderFields → Header
 header_in header = record { n = header.n; m = header.m; format = format_in header.format }
 
--- Words that tell the same header and have the same fault.
+-- Words that give the same header and have the same fault.
 pub record AreOneHeader (words others : List (List ℕ)) : Type 0 where
   pub header : header_of words ≡ header_of others
   pub fault : header_fault words ≡ header_fault others

@@ -1,4 +1,4 @@
--- Which arcs have equal mirrors, and the edges that arcs tell.
+-- Which arcs have equal mirrors, and the edges of arcs.
 use Rattle.std.specs.Prelude.{◌≡◌, ◌≢◌, ℕ, ◌+◌, ◌-◌, ◌<◌, nat_lt, Option, List, length, map, filter, slice_index, All, AllPairs, Contains}
 use Rattle.std.specs.Option.{option_map}
 use Rattle.pg_base.specs.declared.edges.Edge.{Edge}

@@ -23,7 +23,7 @@ abbrev pub OnPartsFailed : {A : Type 0} → Result A PartsFault → Type 0 → T
 OnPartsFailed (Err Failed) P = P
 OnPartsFailed _ P = ⊤
 
--- The answer is this refusal, unless a read failed or memory was wanting.
+-- The answer is this refusal, unless a read failed or memory was short.
 abbrev pub ArePartsRefusedAs : {A : Type 0} → Result A PartsFault → FirstPartsFault → Type 0
 ArePartsRefusedAs (Ok x) fault = ⊥
 ArePartsRefusedAs (Err (Refused line kind)) fault = (line ≡ fault.line) × (kind ≡ fault.kind)

@@ -22,7 +22,7 @@ pub record TakesHeader (header : Header) (at : ℕ) (was now : Content) : Type 0
   pub faultless : header_fault (words line.bytes) ≡ None
   pub is : header_of (words line.bytes) ≡ Some header
 
--- The line of v was the first line ahead, and what it tells was added to what was told before.
+-- The line of v was the first line ahead, and what it says was added to what was known before.
 pub record TakesRow (header : Header) (v : ℕ) (old new : Rows) (before after : Option Content) : Type 0 where
   pub line : NumberedLine
   pub told : Told before after (Passes (line ∷ []))
@@ -32,7 +32,7 @@ pub record TakesRow (header : Header) (v : ℕ) (old new : Rows) (before after :
   pub size : length new.stamps.items ≡ length old.stamps.items
   pub stamps : All (λ stamp. stamp < v + 1) new.stamps.items
 
--- These are the lines of the first v vertices, and this is what they tell.
+-- These are the lines of the first v vertices, and this is what they say.
 pub record AreRowsOf (header : Header) (v : ℕ) (rows : Rows) (lines : List NumberedLine) : Type 0 where
   pub count : length lines ≡ v
   pub faultless : lines_fault header 1 lines ≡ None
@@ -79,7 +79,7 @@ pub record ReadsFile (file : FileLines) (left : Option (List ℕ)) : Type 0 wher
   pub are : AreRowsOf (header_in file.header) file.header.n file.rows lines
   pub told : IfSome left (HasLines (header_in file.header) file.header_line lines)
 
--- The lines of the vertices name each edge of the graph from both ends, and as many as the header tells.
+-- The lines of the vertices name each edge of the graph from both ends, and as many as the header says.
 pub record AreLinesOf (header : Header) (lines : List NumberedLine) (g : Graph) : Type 0 where
   pub n : g.n ≡ header.n
   pub count : length (named_arcs header.format 1 lines) ≡ 2 * header.m

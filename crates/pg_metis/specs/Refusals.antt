@@ -5,7 +5,7 @@ use Rattle.pg_metis.specs.declared.faults.GraphFault.TheVariants as answer
 use Rattle.pg_metis.specs.declared.pairing.PairFault.{PairFault}
 use Rattle.pg_metis.specs.declared.pairing.PairFault.TheVariants.{NotPaired, OutOfMemory}
 
--- The vertex that is told is one of 1 to n.
+-- The vertex that is named is one of 1 to n.
 abbrev pub LeavesWithin : ℕ → PairFault → Type 0
 LeavesWithin n (NotPaired vertex kind) = (1 ≤ vertex) × (vertex ≤ n)
 LeavesWithin n OutOfMemory = ⊤

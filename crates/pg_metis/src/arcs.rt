@@ -41,7 +41,7 @@ impl NamedArcs {
         })
     }
 
-    /// Takes the next arc. Takes no memory.
+    /// Takes the next arc. Doesn't allocate.
     pub fn push(&mut self, arc: NamedArc)
         ensures adds { Adds self.old (arc_of arc ∷ []) self.new }
         ensures extends { Extends self.old self.new }

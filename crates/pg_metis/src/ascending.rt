@@ -26,7 +26,7 @@ const BLOCKS: u32 = MAX_VERTICES / BLOCK + 1;
 /// Stands where no edge was put yet.
 const BLANK: Edge = Edge { u: 0, v: 0, w: 0 };
 
-/// The edges whose two directions the arcs are, ascending, where the arcs ascend too. `None` tells nothing of the arcs.
+/// The edges whose two directions the arcs are, ascending, where the arcs ascend too. `None` says nothing of the arcs.
 /// Takes time and memory linear in n and the arcs.
 pub(crate) fn ascending_edges(
     alloc: Global,

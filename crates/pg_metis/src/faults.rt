@@ -1,3 +1,4 @@
+//! Why a graph file is refused.
 ghost use Rattle.std.specs.Prelude.{◌≡◌};
 ghost use Rattle.pg_metis.specs.declared.faults.GraphFault.TheVariants.{OutOfMemory, Refused};
 ghost use Rattle.pg_metis.specs.Answers.{from_text};

@@ -63,7 +63,7 @@ fn graph_of(alloc: Global, file: FileLines) -> Result<EdgeList, GraphFault>
     }
 }
 
-/// The refusal of arcs that aren't paired. It tells the line of their vertex, by the numbers of all lines.
+/// The refusal of arcs that aren't paired. It names the line of their vertex, by the numbers of all lines.
 fn refusal(fault: PairFault, numbers: &[u64]) -> GraphFault
     requires { LeavesWithin (length numbers.now) fault }
     ensures { result ≡ told_at numbers.now fault }

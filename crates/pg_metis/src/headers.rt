@@ -30,7 +30,7 @@ impl Format {
     ghost use Rattle.pg_metis.specs.Fault.{format_fault, number_fault};
     ghost use Rattle.pg_metis.specs.Headers.{format_in};
 
-    /// The format that a header's digits and its number of weights for each vertex tell.
+    /// The format that a header's digits and its number of weights for each vertex stand for.
     fn of_words(digits: &[u8], ncon: &[u8]) -> Result<Format, Kind>
         ensures ok { IfOk result (λ format. option_and_then (λ marks. option_map (format_of marks) (number ncon.now)) (marks_of digits.now) ≡ Some (format_in format)) }
         ensures faultless { OnOk result (option_or (format_fault digits.now) (number_fault ncon.now) ≡ None) }
@@ -55,7 +55,7 @@ impl Format {
     }
 }
 
-/// What the header of a graph file tells.
+/// What the header of a graph file says.
 #[derive(Clone, Copy)]
 pub(crate) struct Header {
     /// The number of vertices.
@@ -72,7 +72,7 @@ impl Header {
     ghost use Rattle.pg_metis.specs.Fault.{header_fault};
     ghost use Rattle.pg_metis.specs.Headers.{header_in};
 
-    /// The header that a line is. Its first fault is told where it is none.
+    /// The header that a line is. Answers its first fault where it is none.
     pub fn of_line(line: &[u8]) -> Result<Header, Kind>
         ensures ok { IfOk result (λ header. header_of (words line.now) ≡ Some (header_in header)) }
         ensures faultless { OnOk result (header_fault (words line.now) ≡ None) }

@@ -1,7 +1,7 @@
 //! From the arcs that the lines of a graph file name to its edges: each arc is held against its mirror.
 //!
 //! Where every line ascends, its edges are found without a sort (`ascending`). This is the way for all other files, and
-//! tells what is wrong. The arcs to lesser vertices, sorted, are the edges. Vertex by vertex, the arcs of its line to greater vertices have
+//! finds what is wrong. The arcs to lesser vertices, sorted, are the edges. Vertex by vertex, the arcs of its line to greater vertices have
 //! to be the edges from it. Where they stand in the edges' order, they are compared side by side. Else the edges leave
 //! marks at their greater ends, and the arcs take them away. So an edge that only the line of its greater end names is
 //! left over when that line is reached.
@@ -37,7 +37,7 @@ pub(crate) struct NamedArc {
 pub(crate) enum PairFault {
     /// The first arc that has no equal mirror leaves this vertex.
     NotPaired { vertex: u32, kind: Kind },
-    /// Want of memory. No clause says when it comes.
+    /// Out of memory. No clause says when it comes.
     OutOfMemory,
 }
 
@@ -75,7 +75,7 @@ struct Place {
     edges: usize,
 }
 
-/// The edges whose two directions the arcs are, ascending. `NotPaired` tells the first arc without an equal
+/// The edges whose two directions the arcs are, ascending. `NotPaired` names the first arc without an equal
 /// mirror. Takes time and memory linear in n and the arcs.
 pub(crate) fn edges_of(alloc: Global, n: u32, arcs: Vec<NamedArc>) -> Result<Vec<Edge>, PairFault>
     requires few { n ≤ MAX_VERTICES }
@@ -97,7 +97,7 @@ pub(crate) fn edges_of(alloc: Global, n: u32, arcs: Vec<NamedArc>) -> Result<Vec
     }
 }
 
-/// The edges that the arcs to lesser vertices tell, ascending.
+/// The edges of the arcs to lesser vertices, ascending.
 fn lower_edges(alloc: Global, arcs: &[NamedArc]) -> Result<Vec<Edge>, AllocError>
     requires named { AreNamed MAX_VERTICES (arcs_named arcs.now) }
     requires size { length arcs.now ≤ 2 * MAX_EDGES }
@@ -108,7 +108,7 @@ fn lower_edges(alloc: Global, arcs: &[NamedArc]) -> Result<Vec<Edge>, AllocError
     Ok(edges)
 }
 
-/// The edges that the arcs to lesser vertices tell, in the order of the arcs.
+/// The edges of the arcs to lesser vertices, in the order of the arcs.
 fn lower_in_order(alloc: Global, arcs: &[NamedArc]) -> Result<Vec<Edge>, AllocError>
     ensures { IfOk result (λ edges. edges.items ≡ back_edges (arcs_named arcs.now)) }
 {

@@ -1,3 +1,4 @@
+//! Why a partition file is refused.
 ghost use Rattle.std.specs.Prelude.{◌≡◌};
 ghost use Rattle.pg_metis.specs.declared.parts_faults.PartsFault.TheVariants.{OutOfMemory, Refused};
 ghost use Rattle.pg_metis.specs.PartsAnswers.{parts_from_text};

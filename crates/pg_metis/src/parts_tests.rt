@@ -59,7 +59,7 @@ fn a_partition_file_gives_its_ranks(rt: HostRuntime) -> Result<(), Fail> {
     Ok(())
 }
 
-/// Tells of each file, of so many vertices and ranks, that it is refused by this line and kind.
+/// Each file, of so many vertices and ranks, is refused with this line and kind.
 fn assert_refused(
     rt: &impl Abort,
     alloc: Global,

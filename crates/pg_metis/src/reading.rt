@@ -23,7 +23,7 @@ use pg_outside::Inputs;
 use pg_text::LineReader;
 use std::alloc::Global;
 
-/// What the lines of the vertices told so far.
+/// What is known from the lines of the vertices so far.
 #[derive(Drop)]
 pub(crate) struct Rows {
     /// For each vertex the last vertex whose line named it, or 0.
@@ -33,7 +33,7 @@ pub(crate) struct Rows {
     pub arcs: NamedArcs,
 }
 
-/// What the lines of a file told, before they are held against one another.
+/// What is known from the lines of a file, before they are held against one another.
 #[derive(Drop)]
 pub(crate) struct FileLines {
     pub header: Header,
@@ -143,7 +143,7 @@ fn row_at(
 }
 
 impl Rows {
-    /// What no line told yet, with memory for all lines.
+    /// Nothing is known from any line yet. Has memory for all lines.
     fn new(alloc: Global, header: Header) -> Result<Rows, GraphFault>
         ensures ok { IfOk result (λ rows. AreRowsOf (header_in header) 0 rows []) }
         ensures refused { OnRefused result (λ _. ⊥) }
@@ -235,7 +235,7 @@ fn read_body<I: Inputs>(
     Ok(rows)
 }
 
-/// Reads the name that was begun last to its end. The first fault of a line is told where there is one.
+/// Reads the name that was begun last to its end. Answers the first fault of a line where there is one.
 pub(crate) fn read_file<I: Inputs>(alloc: Global, inputs: &mut I) -> Result<FileLines, GraphFault>
     requires begun { IsTrue (I.begun inputs.old) }
     ensures later { I.faults inputs.old ≤ I.faults inputs.new }

@@ -1,4 +1,4 @@
--- The line that tells a fault, and the status that a run with it ends with.
+-- The line that reports a fault, and the status that a run with it ends with.
 -- Source: docs/FORMAT.md, the texts of faults.
 use Rattle.std.specs.Prelude.{ℕ, List, [], ◌∷◌, ◌++◌, codes, decimal}
 use Rattle.pg_base.specs.declared.outcomes.Status.{Status}

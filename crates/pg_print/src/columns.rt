@@ -1,3 +1,4 @@
+//! Answers for each vertex, one line each.
 ghost use Rattle.std.specs.Prelude.{◌≡◌, ◌≤◌, ◌-◌, Option, List, ℕ, Some, length, slice_get, OnOk, OnErr};
 ghost use Rattle.std.specs.Io.KnownBytes.{Appends};
 ghost use Rattle.pg_outside.specs.Faults.{Rose};

@@ -1,3 +1,4 @@
+//! The faults of a run, and the status with which each ends.
 ghost use Rattle.std.specs.Prelude.{◌≡◌};
 ghost use Rattle.pg_print.specs.FaultLines.{status_of};
 ghost use Rattle.pg_print.specs.FaultsFrom.{from_graph, from_parts};

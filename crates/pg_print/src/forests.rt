@@ -1,3 +1,4 @@
+//! The edges of a forest and their total, one line each.
 ghost use Rattle.std.specs.Prelude.{◌≡◌, ◌<◌, ◌≤◌, All, codes, length, OnOk, OnErr};
 ghost use Rattle.std.specs.Io.KnownBytes.{Appends};
 ghost use Rattle.pg_outside.specs.Faults.{Rose};

@@ -42,7 +42,7 @@ pub fn summaries()
     }) ≡ codes "vertices 4\nedges 3\nhops 3 2 3\nweights 3 7 12\ncomponents 2\nforest 2 10\nclashes 0\n" }
 {}
 
-/// The line that tells each fault.
+/// The line that reports each fault.
 pub fn fault_lines()
     ensures words { fault_line Fault.Words ≡ codes "bad words\n" }
     ensures graph { fault_line (Fault.Graph 3 Kind.NoMirror) ≡ codes "line 3: NoMirror\n" }

@@ -1,4 +1,4 @@
-//! What the program writes: columns of answers, forests, summaries, and the line that tells a fault. Each line is one
+//! What the program writes: columns of answers, forests, summaries, and the line that reports a fault. Each line is one
 //! call of the sink, and no call takes memory.
 #![tactic(auto)]
 

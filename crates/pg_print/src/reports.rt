@@ -1,3 +1,4 @@
+//! The line on standard error.
 ghost use Rattle.std.specs.Prelude.{◌≡◌, ◌≤◌, [], ◌∷◌, ◌++◌, length, OnOk, OnErr};
 ghost use Rattle.std.specs.Io.KnownBytes.{Appends};
 ghost use Rattle.pg_outside.specs.Faults.{Rose};
@@ -13,7 +14,7 @@ use pg_outside::{Failed, Sink};
 /// At least the length of every fault's line.
 const FAULT_LINE: usize = 80;
 
-/// Writes the line that tells the fault, by one call. After an `Err`, which comes only where the sink's count of
+/// Writes the line that reports the fault, by one call. After an `Err`, which comes only where the sink's count of
 /// faults rose, a front of this line was written.
 pub fn print_fault<S: Sink>(out: &mut S, fault: &Fault) -> Result<(), Failed>
     ensures ok { OnOk result (Appends (S.text out.old) (S.text out.new) (fault_line fault.now)) }
@@ -25,7 +26,7 @@ pub fn print_fault<S: Sink>(out: &mut S, fault: &Fault) -> Result<(), Failed>
     out.write_all(line.as_str().as_bytes())
 }
 
-/// The line that tells the fault.
+/// The line that reports the fault.
 fn line_of(fault: &Fault) -> ArrayString<FAULT_LINE>
     ensures { result.bytes ≡ fault_line fault.now }
 {

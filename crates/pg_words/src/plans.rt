@@ -1,3 +1,5 @@
+//! What the words ask for.
+
 use std::alloc::AllocError;
 
 /// What a run computes.

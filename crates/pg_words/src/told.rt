@@ -1,4 +1,4 @@
-//! What the words tell of a positional or an option.
+//! What the words say of a positional or an option.
 ghost use Rattle.std.specs.Prelude.{◌≡◌, ◌≤◌, is_some, true, IfSome, option_map};
 ghost use Rattle.clap.specs.Matches.{found_of};
 ghost use Rattle.clap.specs.Walk.{rows_of};
@@ -41,7 +41,7 @@ fn number_or(otherwise: u32, least: u32, most: u32, word: Option<&str>) -> Optio
     }
 }
 
-/// The number that an option tells, from `least` to `most`, or `otherwise` where it isn't there.
+/// The number that an option gives, from `least` to `most`, or `otherwise` where it isn't there.
 pub fn number_told(
     matches: &ArgMatches,
     name: &str,
