@@ -10,10 +10,10 @@ ghost use Rattle.std.specs.Prelude.{◌≡◌, ◌≢◌, ◌+◌, ◌*◌, ◌/
 ghost use Rattle.pg_base.specs.declared.TheConstants.{MAX_EDGES, MAX_VERTICES};
 ghost use Rattle.pg_base.specs.Graph.{Precedes};
 ghost use Rattle.pg_metis.specs.Ascending.{AreBackOrBlank, IsAtCursor};
-ghost use Rattle.pg_metis.specs.Mirrors.{edge_back, forth_edges};
+ghost use Rattle.pg_metis.specs.Mirrors.{forth_edges};
 ghost use Rattle.pg_metis.specs.Pairing.{arc_of, arcs_named, AreEdgesOf, AreNamed};
 
-use crate::pairing::{NamedArc, edge_to};
+use crate::pairing::{NamedArc, edge_from, edge_to};
 use pg_base::{Edge, MAX_VERTICES};
 use std::alloc::{AllocError, Global};
 
@@ -51,7 +51,8 @@ pub(crate) fn ascending_edges(
 }
 
 /// Puts the edges of the arcs to greater vertices into `edges`, and those of the others by blocks into `back`. Says
-/// whether the former ascend and there is room for the latter. The cursors then stand before the edges from each vertex.
+/// whether the former ascend and there is room for the latter. Sets the cursors before the edges from each vertex, which no
+/// clause says: with other cursors `all_met` answers false.
 fn split(
     arcs: &[NamedArc],
     edges: &mut Vec<Edge>,
@@ -86,17 +87,6 @@ fn split(
         }
     }
     Ok(true)
-}
-
-/// The edge of an arc to a lesser vertex.
-fn edge_from(arc: NamedArc) -> Edge
-    ensures { result ≡ edge_back (arc_of arc) }
-{
-    Edge {
-        u: arc.to,
-        v: arc.from,
-        w: arc.weight,
-    }
 }
 
 /// Puts the edge where its block has grown to, and says whether there is such a place.

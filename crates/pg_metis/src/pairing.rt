@@ -15,7 +15,7 @@ ghost use Rattle.pg_metis.specs.declared.pairing.PairFault.TheVariants.{OutOfMem
 ghost use Rattle.pg_metis.specs.Fault.{first_unmirrored};
 ghost use Rattle.pg_metis.specs.Lines.{IsInOrder, IsPaired, IsRun, IsSettled};
 ghost use Rattle.pg_metis.specs.Marks.{LeaveMarks, Meets, MeetsNone, is_owed, mark_at, marked_by};
-ghost use Rattle.pg_metis.specs.Mirrors.{AreLowerEdges, AreWeightsTo, edge_forth, first_vertex, back_edges};
+ghost use Rattle.pg_metis.specs.Mirrors.{AreLowerEdges, AreWeightsTo, edge_back, edge_forth, first_vertex, back_edges};
 ghost use Rattle.pg_metis.specs.Pairing.{arc_of, arcs_named, AreEdgesOf, AreNamed, IsNamed, OnNotPaired};
 
 use crate::Kind;
@@ -115,11 +115,7 @@ fn lower_in_order(alloc: Global, arcs: &[NamedArc]) -> Result<Vec<Edge>, AllocEr
     let mut edges = Vec::with_capacity(alloc, arcs.len() / 2)?;
     for arc in arcs {
         if arc.to < arc.from {
-            edges.push(Edge {
-                u: arc.to,
-                v: arc.from,
-                w: arc.weight,
-            })?;
+            edges.push(edge_from(*arc))?;
         }
     }
     Ok(edges)
@@ -205,6 +201,17 @@ fn match_line(u: u32, arcs: &[NamedArc], edges: &[Edge], place: Place) -> Option
         return None;
     }
     Some(next)
+}
+
+/// The edge of an arc to a lesser vertex.
+pub(crate) fn edge_from(arc: NamedArc) -> Edge
+    ensures { result ≡ edge_back (arc_of arc) }
+{
+    Edge {
+        u: arc.to,
+        v: arc.from,
+        w: arc.weight,
+    }
 }
 
 /// The edge of an arc to a greater vertex.
