@@ -1,10 +1,9 @@
 -- The pass over a rank's arcs, arc after arc.
-use Rattle.std.proofs.Common.{◌≡◌, ◌≢◌, ◌==◌, not, ◌⊎◌, ℕ, ◌+◌, ◌%◌, ◌<◌, ◌≤◌, Bool, true, false, cond, List, [], ◌∷◌, ◌++◌, length, get_or, set, take, refl, sym, ◌∙◌, ap, subst, inl, inr, ⊎_elim, arith, Option, Some, None, All, Contains}
+use Rattle.std.proofs.Common.{◌≡◌, ◌≢◌, ◌==◌, not, ◌⊎◌, ℕ, ◌+◌, ◌%◌, ◌<◌, ◌≤◌, Bool, true, false, cond, List, [], ◌∷◌, ◌++◌, length, map, get_or, set, take, refl, sym, ◌∙◌, ap, subst, inl, inr, ⊎_elim, arith, Option, Some, None, All, Contains}
 use Rattle.std.specs.Prelude.{min, nat_lt, filter, slice_index}
 use Rattle.std.proofs.lemmas.Bool.{cases_eq, cases_lt, eq-eqb, ne_eqb, lt-ltb, le-ltb, cond-true, cond-false, and_left, and_right, false≢true}
 use Rattle.std.proofs.lemmas.List.{append-nil, get_or-set_same, get_or-set_other, length-set, get_or_default, map_more, get_or-drop}
-use Rattle.std.proofs.lemmas.List.Elements.{filter-append, All-get_or, All-contains, All-set}
-use Rattle.std.proofs.lemmas.List.Filters.{FiltersInPlace, FiltersInPlace-more_no, FiltersInPlace-more_set}
+use Rattle.std.proofs.lemmas.List.Elements.{filter-append, All-get_or, All-contains, All-set, All-map, All-filter}
 use Rattle.std.proofs.lemmas.Nat.{mod-mul-add}
 use Rattle.pg_base.specs.declared.TheConstants.{MAX_EDGES}
 use Rattle.pg_base.proofs.Members.{Contains-filter}
@@ -14,7 +13,8 @@ use Rattle.pg_boruvka.specs.Parts.{LocalArc}
 use Rattle.pg_boruvka.specs.Winners.{leaves, lesser_arc, least_arc, key_of}
 use Rattle.pg_boruvka.proofs.Leasts.{IsLeastArc, least_arc_is}
 use Rattle.pg_boruvka.proofs.Items.{member_of_map}
-use Rattle.pg_boruvka.specs.Arcs.{local, locals, is_apart, IsInTables, AreLeasts, IsOfEdge}
+use Rattle.pg_boruvka.proofs.MovedInPlace.{IsMovedInPlace, moved_past, moved_to_front}
+use Rattle.pg_boruvka.specs.Arcs.{local, locals, relabelled, is_apart, IsInTables, AreLeasts, IsOfEdge}
 
 -- The least arc when another comes after the others.
 abbrev pub later_arc : Option LocalArc → LocalArc → LocalArc
@@ -207,37 +207,60 @@ module _ (arcs : List LocalArc) (label : ℕ → ℕ) (keys targets : List ℕ) 
 pub keyed_arc : (count : ℕ) (a : DenseArc) → IsInTables count MAX_EDGES a → (local a).key < NO_KEY → IsKeyed (local a)
 keyed_arc count a in_tables small = record { small = small; edge = mod-mul-add a.weight MAX_EDGES a.edge in_tables.edge }
 
--- The arcs that the pass keeps.
+-- The arcs that the pass keeps, and as what.
 abbrev pub apart : List ℕ → DenseArc → Bool
-apart labels a = is_apart (slice_index labels) (local a)
+apart pointers a = is_apart (slice_index pointers) (local a)
+
+abbrev pub moved : List ℕ → DenseArc → DenseArc
+moved pointers a = record { from = slice_index pointers a.from; to = slice_index pointers a.to; weight = a.weight; edge = a.edge }
 
 locals_step : (b : Bool) (x : DenseArc) (kept : List DenseArc) → locals (cond b (x ∷ kept) kept) ≡ cond b (local x ∷ locals kept) (locals kept)
 locals_step true x kept = refl
 locals_step false x kept = refl
 
-pub locals_kept : (labels : List ℕ) (arcs : List DenseArc) → locals (filter (apart labels) arcs) ≡ filter (is_apart (slice_index labels)) (locals arcs)
-locals_kept labels [] = refl
-locals_kept labels (x ∷ arcs) = locals_step (apart labels x) x (filter (apart labels) arcs)
-    ∙ ap (λ (xs : List LocalArc). cond (apart labels x) (local x ∷ xs) xs) (locals_kept labels arcs)
+locals_kept : (pointers : List ℕ) (arcs : List DenseArc) → locals (filter (apart pointers) arcs) ≡ filter (is_apart (slice_index pointers)) (locals arcs)
+locals_kept pointers [] = refl
+locals_kept pointers (x ∷ arcs) = locals_step (apart pointers x) x (filter (apart pointers) arcs)
+    ∙ ap (λ (xs : List LocalArc). cond (apart pointers x) (local x ∷ xs) xs) (locals_kept pointers arcs)
+
+locals_moved : (pointers : List ℕ) (arcs : List DenseArc) → locals (map (moved pointers) arcs) ≡ map (relabelled (slice_index pointers)) (locals arcs)
+locals_moved pointers [] = refl
+locals_moved pointers (x ∷ arcs) = ap (λ (xs : List LocalArc). local (moved pointers x) ∷ xs) (locals_moved pointers arcs)
+
+pub locals_gathered : (pointers : List ℕ) (arcs : List DenseArc) → locals (map (moved pointers) (filter (apart pointers) arcs))
+    ≡ map (relabelled (slice_index pointers)) (filter (is_apart (slice_index pointers)) (locals arcs))
+locals_gathered pointers arcs = locals_moved pointers (filter (apart pointers) arcs) ∙ ap (map (relabelled (slice_index pointers))) (locals_kept pointers arcs)
+
+-- The labels to which arcs lead are below what all pointers are below.
+pub ends_gathered : (pointers : List ℕ) (arcs : List DenseArc) (count edges : ℕ) → All (IsInTables (length pointers) MAX_EDGES) arcs → All (λ l. l < count) pointers
+    → All (IsInTables count edges) arcs → All (IsInTables count edges) (map (moved pointers) (filter (apart pointers) arcs))
+ends_gathered pointers arcs count edges within below all =
+    All-map (IsInTables count edges) (moved pointers) (filter (apart pointers) arcs)
+    (All-filter (apart pointers) (λ a. IsInTables count edges (moved pointers a)) arcs
+    (λ i d h. record {
+      from = below (get_or arcs i d).from 0 (within i d h).from;
+      to = below (get_or arcs i d).to 0 (within i d h).to;
+      edge = (all i d h).edge;
+    }))
 
 -- The arc at the place is as it was at first.
-pub read_at_first : (p : DenseArc → Bool) (xs ys : List DenseArc) (k i : ℕ) (d : DenseArc) → FiltersInPlace p xs ys k i → get_or ys i d ≡ get_or xs i d
-read_at_first p xs ys k i d f =
-    let e : get_or ys (i + 0) d ≡ get_or xs (i + 0) d = sym (get_or-drop i ys 0 d) ∙ (ap (λ (zs : List DenseArc). get_or zs 0 d) f.rest ∙ get_or-drop i xs 0 d) in
+pub read_at_first : (p : DenseArc → Bool) (f : DenseArc → DenseArc) (xs ys : List DenseArc) (k i : ℕ) (d : DenseArc) → IsMovedInPlace p f xs ys k i → get_or ys i d ≡ get_or xs i d
+read_at_first p f xs ys k i d is =
+    let e : get_or ys (i + 0) d ≡ get_or xs (i + 0) d = sym (get_or-drop i ys 0 d) ∙ (ap (λ (zs : List DenseArc). get_or zs 0 d) is.rest ∙ get_or-drop i xs 0 d) in
     let none : i + 0 ≡ i = omega arith in
     subst (λ (j : ℕ). get_or ys j d ≡ get_or xs j d) none e
 
-pub read_in_tables : (P : DenseArc → Type 0) (p : DenseArc → Bool) (xs ys : List DenseArc) (k i : ℕ) (x : DenseArc) → FiltersInPlace p xs ys k i → i < length ys
+pub read_in_tables : (P : DenseArc → Type 0) (p : DenseArc → Bool) (f : DenseArc → DenseArc) (xs ys : List DenseArc) (k i : ℕ) (x : DenseArc) → IsMovedInPlace p f xs ys k i → i < length ys
     → x ≡ get_or ys i x → All P xs → P x
-read_in_tables P p xs ys k i x f within read all =
-    let within_first : i < length xs = omega (arith, f.long) in
-    subst P (sym (read ∙ read_at_first p xs ys k i x f)) (All-get_or P xs i x within_first all)
+read_in_tables P p f xs ys k i x is within read all =
+    let within_first : i < length xs = omega (arith, is.long) in
+    subst P (sym (read ∙ read_at_first p f xs ys k i x is)) (All-get_or P xs i x within_first all)
 
-pub locals_more : (p : DenseArc → Bool) (xs ys : List DenseArc) (k i : ℕ) (x : DenseArc) → FiltersInPlace p xs ys k i → i < length ys → x ≡ get_or ys i x
+pub locals_more : (p : DenseArc → Bool) (f : DenseArc → DenseArc) (xs ys : List DenseArc) (k i : ℕ) (x : DenseArc) → IsMovedInPlace p f xs ys k i → i < length ys → x ≡ get_or ys i x
     → locals (take (i + 1) xs) ≡ locals (take i xs) ++ local x ∷ []
-locals_more p xs ys k i x f within read =
-    let same : get_or xs i x ≡ x = sym (read ∙ read_at_first p xs ys k i x f) in
-    map_more local xs i x (omega (arith, f.long)) ∙ ap (λ (a : DenseArc). locals (take i xs) ++ local a ∷ []) same
+locals_more p f xs ys k i x is within read =
+    let same : get_or xs i x ≡ x = sym (read ∙ read_at_first p f xs ys k i x is) in
+    map_more local xs i x (omega (arith, is.long)) ∙ ap (λ (a : DenseArc). locals (take i xs) ++ local a ∷ []) same
 
 -- The edges of the keys.
 edge_by : (label : ℕ → ℕ) (arcs : List LocalArc) (edges key across : ℕ) (o : Option LocalArc) → IsNotedOf label o key across
@@ -266,42 +289,42 @@ targets_below : (count : ℕ) (b : Bool) (across : List ℕ) (i to : ℕ) → to
 targets_below count true across i to below all = All-set (λ l. l < count) across i to below all
 targets_below count false across i to below all = all
 
--- Of the arcs xs so many are passed, and so many of these kept, in the front of ys.
-pub record IsGathered (labels : List ℕ) (xs ys : List DenseArc) (keys across_before across : List ℕ) (kept passed : ℕ) : Type 0 where
-  pub filters : FiltersInPlace (apart labels) xs ys kept passed
-  pub leasts : AreLeasts (locals (take passed xs)) (slice_index labels) keys across
-  pub targets : (count : ℕ) → All (λ x. x < count) across_before → All (λ x. x < count) labels → All (λ x. x < count) across
+-- Of the arcs xs so many are passed, and so many of these kept, in the front of ys, between the labels to which their ends lead.
+pub record IsGathered (pointers : List ℕ) (xs ys : List DenseArc) (keys across_before across : List ℕ) (kept passed : ℕ) : Type 0 where
+  pub arcs : IsMovedInPlace (apart pointers) (moved pointers) xs ys kept passed
+  pub leasts : AreLeasts (locals (take passed xs)) (slice_index pointers) keys across
+  pub targets : (count : ℕ) → All (λ x. x < count) across_before → All (λ x. x < count) pointers → All (λ x. x < count) across
 
-module _ (labels : List ℕ) (xs ys : List DenseArc) (keys across_before across : List ℕ) (kept passed : ℕ) (x : DenseArc)
-    (before : IsGathered labels xs ys keys across_before across kept passed) (within : passed < length ys) (read : x ≡ get_or ys passed x) where
-  pub gathered_within : slice_index labels x.from ≡ slice_index labels x.to → IsGathered labels xs ys keys across_before across kept (passed + 1)
+module _ (pointers : List ℕ) (xs ys : List DenseArc) (keys across_before across : List ℕ) (kept passed : ℕ) (x : DenseArc)
+    (before : IsGathered pointers xs ys keys across_before across kept passed) (within : passed < length ys) (read : x ≡ get_or ys passed x) where
+  pub gathered_within : slice_index pointers x.from ≡ slice_index pointers x.to → IsGathered pointers xs ys keys across_before across kept (passed + 1)
   gathered_within same =
-      let fails : apart labels x ≡ false = ap not (eq-eqb (slice_index labels x.from) (slice_index labels x.to) same) in
+      let fails : apart pointers x ≡ false = ap not (eq-eqb (slice_index pointers x.from) (slice_index pointers x.to) same) in
       record {
-        filters = FiltersInPlace-more_no before.filters within fails read;
-        leasts = subst (λ (arcs : List LocalArc). AreLeasts arcs (slice_index labels) keys across)
-            (sym (locals_more (apart labels) xs ys kept passed x before.filters within read))
-            (leasts_within (locals (take passed xs)) (slice_index labels) keys across (local x) before.leasts fails);
+        arcs = moved_past before.arcs within fails read;
+        leasts = subst (λ (list : List LocalArc). AreLeasts list (slice_index pointers) keys across)
+            (sym (locals_more (apart pointers) (moved pointers) xs ys kept passed x before.arcs within read))
+            (leasts_within (locals (take passed xs)) (slice_index pointers) keys across (local x) before.leasts fails);
         targets = before.targets;
       }
 
   abbrev source : ℕ
-  source = slice_index labels x.from
+  source = slice_index pointers x.from
 
-  pub gathered_apart : (key : ℕ) → source ≢ slice_index labels x.to → key ≡ (local x).key → key < NO_KEY → IsInTables (length labels) MAX_EDGES x
-      → All (λ l. l < length labels) labels → length keys ≡ length labels → length across ≡ length labels
-      → IsGathered labels xs (set ys kept x) (set keys source (min (slice_index keys source) key)) across_before
-      (cond (nat_lt key (slice_index keys source)) (set across source (slice_index labels x.to)) across) (kept + 1) (passed + 1)
+  pub gathered_apart : (key : ℕ) → source ≢ slice_index pointers x.to → key ≡ (local x).key → key < NO_KEY → IsInTables (length pointers) MAX_EDGES x
+      → All (λ l. l < length pointers) pointers → length keys ≡ length pointers → length across ≡ length pointers
+      → IsGathered pointers xs (set ys kept (moved pointers x)) (set keys source (min (slice_index keys source) key)) across_before
+      (cond (nat_lt key (slice_index keys source)) (set across source (slice_index pointers x.to)) across) (kept + 1) (passed + 1)
   gathered_apart key differ is small in_tables below long also =
-      let passes : apart labels x ≡ true = ap not (ne_eqb source (slice_index labels x.to) differ) in
-      let short : source < length labels = All-get_or (λ l. l < length labels) labels x.from 0 in_tables.from below in
-      let keyed = keyed_arc (length labels) x in_tables (omega (arith, is)) in
+      let passes : apart pointers x ≡ true = ap not (ne_eqb source (slice_index pointers x.to) differ) in
+      let short : source < length pointers = All-get_or (λ l. l < length pointers) pointers x.from 0 in_tables.from below in
+      let keyed = keyed_arc (length pointers) x in_tables (omega (arith, is)) in
       rw is record {
-        filters = FiltersInPlace-more_set before.filters within passes read;
-        leasts = subst (λ (arcs : List LocalArc). AreLeasts arcs (slice_index labels) (set keys source (min (slice_index keys source) (local x).key))
-            (cond (nat_lt (local x).key (slice_index keys source)) (set across source (slice_index labels x.to)) across))
-            (sym (locals_more (apart labels) xs ys kept passed x before.filters within read))
-            (leasts_apart (locals (take passed xs)) (slice_index labels) keys across (local x) before.leasts (omega arith) (omega arith) passes keyed);
-        targets = λ count first all. targets_below count (nat_lt (local x).key (slice_index keys source)) across source (slice_index labels x.to)
-            (All-get_or (λ l. l < count) labels x.to 0 in_tables.to all) (before.targets count first all);
+        arcs = moved_to_front before.arcs within passes read;
+        leasts = subst (λ (list : List LocalArc). AreLeasts list (slice_index pointers) (set keys source (min (slice_index keys source) (local x).key))
+            (cond (nat_lt (local x).key (slice_index keys source)) (set across source (slice_index pointers x.to)) across))
+            (sym (locals_more (apart pointers) (moved pointers) xs ys kept passed x before.arcs within read))
+            (leasts_apart (locals (take passed xs)) (slice_index pointers) keys across (local x) before.leasts (omega arith) (omega arith) passes keyed);
+        targets = λ count first all. targets_below count (nat_lt (local x).key (slice_index keys source)) across source (slice_index pointers x.to)
+            (All-get_or (λ l. l < count) pointers x.to 0 in_tables.to all) (before.targets count first all);
       }

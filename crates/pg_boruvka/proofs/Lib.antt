@@ -1,5 +1,6 @@
 pub mod RoundLists
 pub mod Leasts
+pub mod MovedInPlace
 pub mod Gathered
 pub mod Lowering
 pub mod CutPieces
@@ -32,6 +33,7 @@ pub mod Seeking
 pub mod Unhooked
 pub mod DenseRuns
 pub mod OrderlyArcs
+pub mod Relabelled
 pub mod NewViews
 pub mod PointerWalks
 pub mod PointerPairs

@@ -3,7 +3,7 @@ use Rattle.std.proofs.Common.{◌≡◌, ℕ, zero, suc, ◌<◌, List, length, 
 use Rattle.std.specs.Prelude.{slice_index}
 use Rattle.std.proofs.lemmas.List.{get_or-map}
 use Rattle.pg_forest.specs.Phases.{point}
-use Rattle.pg_boruvka.specs.Pointers.{walk, AreMoved, AreTogether}
+use Rattle.pg_boruvka.specs.Pointers.{walk, AreMoved}
 
 -- Two ways to step on that agree within a list walk alike.
 same_walk : (f g : ℕ → ℕ) (count : ℕ) → ((l : ℕ) → l < count → f l ≡ g l) → ((l : ℕ) → l < count → f l < count) → (k l : ℕ) → l < count → walk f k l ≡ walk g k l
@@ -41,8 +41,3 @@ module _ (far : ℕ) (targets pointers shortened old new : List ℕ)
       let below : slice_index old v < length pointers = labels v 0 h in
       ap (λ (xs : List ℕ). slice_index xs v) moved ∙ get_or-map (slice_index shortened) old v 0 0 h
       ∙ ends l below (at_end l below still) ∙ walks l below
-
--- Labels that are mapped keep those together that were.
-pub mapped_together : (f : ℕ → ℕ) (old new : List ℕ) → new ≡ map f old → AreTogether old new
-mapped_together f old new moved x y below under same =
-    ap (λ (l : List ℕ). slice_index l x) moved ∙ (get_or-map f old x 0 0 below ∙ (ap f same ∙ (sym (get_or-map f old y 0 0 under) ∙ sym (ap (λ (l : List ℕ). slice_index l y) moved))))

@@ -1,40 +1,37 @@
 -- A rank keeps its promise when a round ends.
-use Rattle.std.proofs.Common.{◌≡◌, ◌≢◌, ◌==◌, ◌⊎◌, ◌↔◌, ℕ, zero, suc, ◌+◌, ◌*◌, ◌/◌, ◌%◌, ◌<◌, ◌≤◌, Bool, true, false, not, cond, List, [], ◌∷◌, ◌++◌, length, filter, refl, sym, ◌∙◌, ap, subst, inl, inr, ⊎_elim, arith, Option, Some, None, Contains}
-use Rattle.std.specs.Prelude.{slice_index, slice_get, if◌then◌else◌}
-use Rattle.std.proofs.lemmas.Bool.{cases_eq, cases_lt, eq-eqb, ne_eqb, eqb-true, cond-true, cond-false, true≢false, false≢true, not-true}
-use Rattle.std.proofs.lemmas.List.Elements.{Contains-append_left, Contains-append_right, Contains-append_cases}
-use Rattle.pg_base.proofs.Members.{contains_first, contains_later}
+use Rattle.std.proofs.Common.{◌≡◌, ℕ, zero, suc, ◌+◌, ◌*◌, ◌/◌, ◌<◌, ◌≤◌, Bool, true, false, List, [], ◌∷◌, ◌++◌, length, map, filter, refl, sym, ◌∙◌, ap, subst, ⊎_elim, arith, Option, Some, None, Contains}
+use Rattle.std.specs.Prelude.{slice_index, slice_get}
+use Rattle.std.proofs.lemmas.Bool.{cases_eq, true≢false}
+use Rattle.std.proofs.lemmas.List.{get_or-map}
+use Rattle.std.proofs.lemmas.List.Elements.{Contains-append_left, Contains-append_cases}
 use Rattle.pg_group.specs.declared.messages.Body.{Body}
-use Rattle.pg_group.specs.declared.messages.Body.TheVariants.{Item, Mark}
 use Rattle.pg_group.specs.declared.messages.Vote.{Vote}
 use Rattle.pg_group.specs.Ranked.{IsOther, list_at}
-use Rattle.pg_group.specs.Rounds.{marks, items_of_round}
-use Rattle.pg_group.specs.Supersteps.{append_marks, append_each}
+use Rattle.pg_group.specs.Rounds.{items_of_round}
+use Rattle.pg_group.specs.Supersteps.{append_marks}
 use Rattle.pg_group.proofs.RollLemmas.{round-to_come}
 use Rattle.pg_adj.specs.Portions.{IsVertex}
 use Rattle.pg_boruvka.specs.declared.TheConstants.{NO_KEY}
-use Rattle.pg_boruvka.specs.declared.hooks.TheConstants.{NO_EDGE}
 use Rattle.pg_boruvka.specs.declared.messages.Hook.{Hook}
 use Rattle.pg_boruvka.specs.declared.messages.Message.{Message}
-use Rattle.pg_boruvka.specs.declared.dense.Stage.{Stage}
 use Rattle.pg_boruvka.specs.declared.dense.Stage.TheVariants as stage
 use Rattle.pg_boruvka.specs.Parts.{LocalArc, Part}
-use Rattle.pg_boruvka.specs.Winners.{leaves, least_arc, key_of, winner, first_label, labels_of, items_in}
-use Rattle.pg_boruvka.specs.Hooks.{hooks_among, own_hooks, hooks_up_to, hooks_of, label_in, AreSoundBefore}
-use Rattle.pg_boruvka.specs.LocalDense.{State, IsPresent, NoWinner, LocalDense}
-use Rattle.pg_boruvka.specs.Steps.{ArePhase, in_next_round, at_end}
-use Rattle.pg_boruvka.specs.Arcs.{is_apart, AreLeasts}
+use Rattle.pg_boruvka.specs.Winners.{winner, first_label, labels_of, items_in}
+use Rattle.pg_boruvka.specs.Hooks.{hooks_among, own_hooks, hooks_up_to, hooks_of, AreSoundBefore}
+use Rattle.pg_boruvka.specs.LocalDense.{IsPresent, NoWinner, LocalDense}
+use Rattle.pg_boruvka.specs.Steps.{ArePhase, in_next_round}
+use Rattle.pg_boruvka.specs.Arcs.{relabelled, is_apart, AreLeasts}
 use Rattle.pg_boruvka.specs.Lowered.{AreBegun}
 use Rattle.pg_boruvka.specs.Noted.{noted, AreStill, own_hook_at}
 use Rattle.pg_boruvka.specs.Chosen.{marked, AreMarked}
 use Rattle.pg_boruvka.specs.Pointers.{AreMoved}
 use Rattle.pg_boruvka.specs.Known.{Known, View, with_hooks, with_known, in_stage, label_of, round_of, state_of, stage_no}
-use Rattle.pg_boruvka.specs.Shown.{IsPassed, IsPassedMessage, AreSentSoFar, IsGathered, AreNotedOf, HasChosen}
+use Rattle.pg_boruvka.specs.Shown.{AreSentSoFar, AreNotedOf, HasChosen}
 use Rattle.pg_boruvka.proofs.Agreeing.{winners_agree}
 use Rattle.pg_boruvka.proofs.Items.{none_in}
-use Rattle.pg_boruvka.proofs.OwnHooks.{leaves_is}
 use Rattle.pg_boruvka.proofs.Stepping.{items_marks, going_on_keeps, ending_keeps}
-use Rattle.pg_boruvka.proofs.DueMessages.{IsRegular, filter_same, labels_agree_now, winner_is, won_is_own, own_is_won}
+use Rattle.pg_boruvka.proofs.DueMessages.{IsRegular, AgreeAt, winner_is, won_is_own, own_is_won}
+use Rattle.pg_boruvka.proofs.Relabelled.{kept_on, leasts_on, kept_same, leasts_same}
 use Rattle.pg_boruvka.proofs.BeginningPhases.{begun_winner}
 use Rattle.pg_boruvka.proofs.EndingPhases.{next_phase}
 
@@ -76,20 +73,6 @@ down_not_hook e = cc
 
 no_hook : (o : Option Hook) (h : Hook) → o ≡ Some h → o ≡ None → ⊥
 no_hook o h some none = let bad : Some h ≡ None = sym some ∙ none in cc
-
--- A filter over one that keeps all that it keeps.
-filter_keeps : (p q : LocalArc → Bool) (a : LocalArc) (rest : List LocalArc) (keeps : Bool) → q a ≡ keeps → (p a ≡ true → q a ≡ true) → filter p (cond keeps (a ∷ rest) rest) ≡ cond (p a) (a ∷ filter p rest) (filter p rest)
-filter_keeps p q a rest true is implied = refl
-filter_keeps p q a rest false is implied = sym (by_test (p a) refl) where
-  by_test : (b : Bool) → p a ≡ b → cond b (a ∷ filter p rest) (filter p rest) ≡ filter p rest
-  by_test true on = absurd (false≢true (sym is ∙ implied on))
-  by_test false off = refl
-
-filter_twice : (p q : LocalArc → Bool) (arcs : List LocalArc) → ((a : LocalArc) → Contains arcs a → p a ≡ true → q a ≡ true) → filter p (filter q arcs) ≡ filter p arcs
-filter_twice p q [] implied = refl
-filter_twice p q (a ∷ arcs) implied =
-    filter_keeps p q a (filter q arcs) (q a) refl (implied a (contains_first a arcs))
-    ∙ ap (λ (x : List LocalArc). cond (p a) (a ∷ x) x) (filter_twice p q arcs (λ b c. implied b (contains_later a arcs b c)))
 
 module _ (far : ℕ) (handled sent : List (List (Body Message))) (v : View) (regular : IsRegular v) (keeps : HasChosen far handled sent v) (votes : List Vote) (vote : Vote)
     (running : v.ended ≡ false) (each : length votes ≡ v.part.ranks) (cast : v.cast ≡ Some vote) where
@@ -274,8 +257,9 @@ module _ (far : ℕ) (handled sent : List (List (Body Message))) (v : View) (reg
 
   -- From the last round of a phase to the next phase, which knows this.
   module _ (k : Known) (to_chosen : length k.chosen ≡ length v.known.chosen) (first past : ℕ) (at : v.stage ≡ stage.Hook)
-      (moved : AreMoved far v.known.targets v.known.labels k.labels) (together : (x y : ℕ) → x < length v.known.labels → y < length v.known.labels → label_of v x ≡ label_of v y → slice_index k.labels x ≡ slice_index k.labels y)
-      (grown : AreMarked v.known.edges v.known.chosen k.chosen) (arcs : k.arcs ≡ filter (is_apart (slice_index k.labels)) v.known.arcs) (leasts : AreLeasts v.known.arcs (slice_index k.labels) k.keys k.across)
+      (moved : AreMoved far v.known.targets v.known.labels k.labels) (pointers : List ℕ) (mapped : k.labels ≡ map (slice_index pointers) v.known.labels)
+      (grown : AreMarked v.known.edges v.known.chosen k.chosen) (arcs : k.arcs ≡ map (relabelled (slice_index pointers)) (filter (is_apart (slice_index pointers)) v.known.arcs))
+      (leasts : AreLeasts v.known.arcs (slice_index pointers) k.keys k.across)
       (begun : AreBegun k.keys first past k.winners) (is_first : first ≡ first_label v.part v.part.rank) (is_past : past ≡ first_label v.part v.part.rank + labels_of v.part v.part.rank)
       (each_key : length k.keys ≡ v.part.n + 1) (each_winner : length k.winners ≡ v.part.n + 1) where
     abbrev next : View
@@ -293,41 +277,22 @@ module _ (far : ℕ) (handled sent : List (List (Body Message))) (v : View) (reg
     third : stage_no v.stage ≡ 2
     third = ap stage_no at
 
-    -- Ends with one label keep one label.
-    stays_within : (a : LocalArc) → Contains v.part.arcs a → is_apart (label_of v) a ≡ false → slice_index k.labels a.from ≡ slice_index k.labels a.to
-    stays_within a c e =
-        let o = regular.orderly a c in
-        together a.from a.to (omega (arith, o.from.last, regular.labels)) (omega (arith, o.to.last, regular.labels))
-        (eqb-true (label_of v a.from) (label_of v a.to) (not-false (label_of v a.from == label_of v a.to) e)) where
-          not-false : (b : Bool) → not b ≡ false → b ≡ true
-          not-false true e = refl
-          not-false false e = cc
+    -- Each vertex has the label to which its last one leads.
+    abbrev led : ℕ → ℕ
+    led x = slice_index pointers (label_of v x)
 
-    still_apart : (a : LocalArc) → Contains v.part.arcs a → is_apart (slice_index k.labels) a ≡ true → is_apart (label_of v) a ≡ true
-    still_apart a c e = by_test (is_apart (label_of v) a) refl where
-      by_test : (b : Bool) → is_apart (label_of v) a ≡ b → b ≡ true
-      by_test true is = refl
-      by_test false is =
-          let same = stays_within a c is in
-          absurd (false≢true (sym (ap not (eq-eqb (slice_index k.labels a.from) (slice_index k.labels a.to) same)) ∙ e))
+    leads : AgreeAt v.part.n led (slice_index k.labels)
+    leads x vertex = sym (ap (λ (l : List ℕ). slice_index l x) mapped ∙ get_or-map (slice_index pointers) v.known.labels x 0 0 (omega (arith, vertex.last, regular.labels)))
 
-    leaves_apart : (l : ℕ) (a : LocalArc) → Contains v.part.arcs a → leaves (slice_index k.labels) l a ≡ true → is_apart (label_of v) a ≡ true
-    leaves_apart l a c e =
-        let is = leaves_is (slice_index k.labels) l a e in
-        still_apart a c (ap not (ne_eqb (slice_index k.labels a.from) (slice_index k.labels a.to) (λ same. is.1 (sym same ∙ is.0))))
-
-    arcs_then : k.arcs ≡ filter (is_apart (slice_index k.labels)) v.part.arcs
-    arcs_then = arcs ∙ (ap (filter (is_apart (slice_index k.labels))) keeps.gathered.arcs ∙ filter_twice (is_apart (slice_index k.labels)) (is_apart (label_of v)) v.part.arcs still_apart)
-
-    left_then : (l : ℕ) → filter (leaves (slice_index k.labels) l) v.known.arcs ≡ filter (leaves (slice_index k.labels) l) v.part.arcs
-    left_then l = ap (filter (leaves (slice_index k.labels) l)) keeps.gathered.arcs ∙ filter_twice (leaves (slice_index k.labels) l) (is_apart (label_of v)) v.part.arcs (leaves_apart l)
+    arcs_then : k.arcs ≡ map (relabelled (slice_index k.labels)) (filter (is_apart (slice_index k.labels)) v.part.arcs)
+    arcs_then =
+        arcs ∙ ap (λ (x : List LocalArc). map (relabelled (slice_index pointers)) (filter (is_apart (slice_index pointers)) x)) keeps.gathered.arcs
+        ∙ kept_on v.part.arcs (label_of v) (slice_index pointers) ∙ kept_same v.part led (slice_index k.labels) regular.orderly leads
 
     leasts_then : AreLeasts v.part.arcs (slice_index k.labels) k.keys k.across
-    leasts_then = record {
-      key = λ l h. leasts.key l h ∙ ap (λ (x : List LocalArc). key_of (least_arc x)) (left_then l);
-      across = λ l a h e. leasts.across l a h (ap least_arc (left_then l) ∙ e);
-      edge = λ l a h e. leasts.edge l a h (ap least_arc (left_then l) ∙ e);
-    }
+    leasts_then = leasts_same v.part led (slice_index k.labels) regular.orderly leads k.keys k.across
+        (leasts_on v.part.arcs (label_of v) (slice_index pointers) k.keys k.across
+        (subst (λ (x : List LocalArc). AreLeasts x (slice_index pointers) k.keys k.across) keeps.gathered.arcs leasts))
 
     none_next : (j : ℕ) → round_of v < j → items_in j ended_round ≡ []
     none_next j late = same_items j ∙ none_handled j late

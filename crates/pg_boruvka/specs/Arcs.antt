@@ -1,5 +1,5 @@
 -- A rank's arcs as they lie in memory, and what the pass over them finds of each label.
-use Rattle.std.specs.Prelude.{◌≡◌, ◌≢◌, ◌==◌, not, ℕ, ◌+◌, ◌*◌, ◌<◌, ◌%◌, Bool, Some, List, length, map, filter, slice_index, All}
+use Rattle.std.specs.Prelude.{◌≡◌, ◌≢◌, ◌==◌, not, ℕ, ◌+◌, ◌*◌, ◌<◌, ◌%◌, Bool, Some, List, length, map, filter, slice_index}
 use Rattle.pg_base.specs.declared.TheConstants.{MAX_EDGES}
 use Rattle.pg_boruvka.specs.declared.TheConstants.{NO_KEY}
 use Rattle.pg_boruvka.specs.declared.arcs.DenseArc.{DenseArc}
@@ -11,6 +11,10 @@ local a = record { from = a.from; to = a.to; key = a.weight * MAX_EDGES + a.edge
 
 abbrev pub locals : List DenseArc → List LocalArc
 locals arcs = map local arcs
+
+-- The arc between the labels of its ends.
+abbrev pub relabelled : (ℕ → ℕ) → LocalArc → LocalArc
+relabelled label a = record { from = label a.from; to = label a.to; key = a.key; edge = a.edge }
 
 -- The arc's ends differ in label.
 abbrev pub is_apart : (ℕ → ℕ) → LocalArc → Bool

@@ -20,10 +20,6 @@ AreMoved far targets old new = (v : ℕ) → v < length old
     → point (slice_index targets) (walk (point (slice_index targets)) far (slice_index old v)) ≡ walk (point (slice_index targets)) far (slice_index old v)
     → slice_index new v ≡ walk (point (slice_index targets)) far (slice_index old v)
 
--- Where two had one label, they have one label.
-abbrev pub AreTogether : List ℕ → List ℕ → Type 0
-AreTogether old new = (x y : ℕ) → x < length old → y < length old → slice_index old x ≡ slice_index old y → slice_index new x ≡ slice_index new y
-
 -- So many steps or more from l along the pointers lead there.
 pub record IsReached (pointers : List ℕ) (few l there : ℕ) : Type 0 where
   pub count : ℕ

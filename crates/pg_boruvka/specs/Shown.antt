@@ -1,5 +1,5 @@
 -- What a rank of Borůvka's method promises.
-use Rattle.std.specs.Prelude.{◌≡◌, ◌⊎◌, ℕ, ◌+◌, ◌<◌, ◌≤◌, false, Some, None, List, [], length, filter, slice_index, Contains}
+use Rattle.std.specs.Prelude.{◌≡◌, ◌⊎◌, ℕ, ◌+◌, ◌<◌, ◌≤◌, false, Some, None, List, [], length, map, filter, slice_index, Contains}
 use Rattle.pg_base.specs.declared.TheConstants.{MAX_VERTICES}
 use Rattle.pg_group.specs.declared.messages.Body.{Body}
 use Rattle.pg_group.specs.Ranked.{IsOther, list_at}
@@ -15,7 +15,7 @@ use Rattle.pg_boruvka.specs.declared.dense.Stage.TheVariants as stage
 use Rattle.pg_boruvka.specs.Winners.{winner, first_label, labels_of}
 use Rattle.pg_boruvka.specs.Hooks.{hooks_of}
 use Rattle.pg_boruvka.specs.LocalDense.{LocalDense}
-use Rattle.pg_boruvka.specs.Arcs.{is_apart, AreLeasts}
+use Rattle.pg_boruvka.specs.Arcs.{relabelled, is_apart, AreLeasts}
 use Rattle.pg_boruvka.specs.Noted.{noted, AreStill, own_hook_at}
 use Rattle.pg_boruvka.specs.Chosen.{marked}
 use Rattle.pg_boruvka.specs.Numbered.{IsPieceNo}
@@ -53,9 +53,9 @@ pub record AreSentSoFar (sent : List (List (Body Message))) (v : View) : Type 0 
   pub due : (to : ℕ) (m : Message) → IsOther v.part.rank v.part.ranks to → Contains (items_of_round (round_of v) (list_at sent to)) m → IsPassedMessage v to m
   pub all : (to : ℕ) (m : Message) → IsOther v.part.rank v.part.ranks to → IsPassedMessage v to m → Contains (items_of_round (round_of v) (list_at sent to)) m
 
--- Its arcs are those of the part whose ends differ in label, and its keys are those of the least that leave a label.
+-- Its arcs are those of the part whose ends differ in label, between these labels, and its keys are those of the least that leave a label.
 pub record IsGathered (v : View) : Type 0 where
-  pub arcs : v.known.arcs ≡ filter (is_apart (label_of v)) v.part.arcs
+  pub arcs : v.known.arcs ≡ map (relabelled (label_of v)) (filter (is_apart (label_of v)) v.part.arcs)
   pub leasts : AreLeasts v.part.arcs (label_of v) v.known.keys v.known.across
 
 -- The hooks that are noted are some of these, one for each label that has one.

@@ -1,4 +1,4 @@
-//! The arcs of a part, with the vertices from which they lead.
+//! The arcs of a part, with both ends.
 ghost use Rattle.std.specs.Prelude.{◌≡◌, ℕ, ◌+◌, ◌-◌, ◌*◌, ◌%◌, ◌^◌, ◌<◌, ◌≤◌, ◌++◌, All, IfOk, OnOk, length, map, min, sum_by, slice_index};
 ghost use Rattle.pg_base.specs.declared.TheConstants.{MAX_EDGES, MAX_VERTICES};
 ghost use Rattle.pg_base.specs.Keyed.{row_of};
@@ -9,7 +9,7 @@ use pg_adj::{Arc, Part};
 use pg_base::{MAX_EDGES, OutOfMemory};
 use std::alloc::Global;
 
-/// One direction of an edge.
+/// One direction of an edge. Its ends are the labels that they had when the phase began, at first the vertices.
 #[derive(Clone, Copy, Debug, PartialEq, Eq)]
 pub(crate) struct DenseArc {
     pub(crate) from: u32,

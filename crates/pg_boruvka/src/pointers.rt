@@ -3,7 +3,7 @@
 ghost use Rattle.std.specs.Prelude.{◌≡◌, ℕ, ◌^◌, ◌<◌, ◌≤◌, false, All, length, map, slice_index};
 ghost use Rattle.pg_forest.specs.Phases.{point as pointed};
 ghost use Rattle.pg_base.specs.declared.TheConstants.{MAX_VERTICES};
-ghost use Rattle.pg_boruvka.specs.Pointers.{AreShortened, AreReached, AreAtEnds, AreMoved, AreTogether};
+ghost use Rattle.pg_boruvka.specs.Pointers.{AreShortened, AreReached, AreAtEnds, AreMoved};
 
 // So often pointers are doubled: 1,048,576 is two to this power.
 const DOUBLINGS: u32 = 20;
@@ -14,7 +14,7 @@ pub(crate) fn move_to_ends(labels: &mut [u32], targets: &mut [u32])
     requires targets { All (λ l. l < length targets.old) targets.old }
     requires labels { All (λ l. l < length targets.old) labels.old }
     ensures moved { AreMoved MAX_VERTICES targets.old labels.old labels.new }
-    ensures together { AreTogether labels.old labels.new }
+    ensures mapped { labels.new ≡ map (slice_index targets.new) labels.old }
     ensures labels_within { All (λ l. l < length targets.old) labels.new }
     ensures targets_within { All (λ l. l < length targets.old) targets.new }
     ensures same_labels { length labels.new ≡ length labels.old }

@@ -1,12 +1,12 @@
 //! What a rank knows of labels, arcs and edges.
-ghost use Rattle.std.specs.Prelude.{◌≡◌, ℕ, ◌^◌, ◌+◌, ◌<◌, ◌≤◌, None, Some, All, IfNone, IfOk, IfSome, filter, length, slice_index, true, false, ◌↔◌};
+ghost use Rattle.std.specs.Prelude.{◌≡◌, ℕ, ◌^◌, ◌+◌, ◌<◌, ◌≤◌, None, Some, All, IfNone, IfOk, IfSome, filter, map, length, slice_index, true, false, ◌↔◌};
 ghost use Rattle.pg_base.specs.declared.TheConstants.{MAX_EDGES, MAX_VERTICES};
 ghost use Rattle.pg_boruvka.specs.declared.messages.Message.TheVariants.{Piece as Keys};
-ghost use Rattle.pg_boruvka.specs.Arcs.{IsInTables, IsOfEdge, locals, is_apart, AreLeasts};
+ghost use Rattle.pg_boruvka.specs.Arcs.{IsInTables, IsOfEdge, locals, relabelled, is_apart, AreLeasts};
 ghost use Rattle.pg_boruvka.specs.Noted.{noted, own_hook_at, AreUnhooked, AreStill, IsNoted, IsEdgeOrNone};
 ghost use Rattle.pg_boruvka.specs.Chosen.{AreMarked};
 ghost use Rattle.pg_boruvka.specs.Lowered.{AreLowered, AreBegun};
-ghost use Rattle.pg_boruvka.specs.Pointers.{AreMoved, AreTogether};
+ghost use Rattle.pg_boruvka.specs.Pointers.{AreMoved};
 
 use crate::arcs::DenseArc;
 use crate::gathering::gather;
@@ -18,7 +18,7 @@ use std::alloc::{AllocError, Global};
 /// What a rank knows. Labels are numbers of vertices; the entries 0 of the lists by label stand for none.
 #[derive(Drop)]
 pub(crate) struct Tables {
-    /// The arcs whose ends differ in label.
+    /// The arcs whose ends differ in label, between the labels that their ends had when the phase began.
     pub(crate) arcs: Vec<DenseArc>,
     /// The label of each vertex.
     pub(crate) labels: Vec<u32>,
@@ -66,6 +66,7 @@ impl Tables {
         ensures labels { IfOk result (λ t. (v : ℕ) → v < length t.labels.items → slice_index t.labels.items v ≡ v) }
         ensures edges { IfOk result (λ t. length t.chosen.items ≡ edges) }
         ensures unchosen { IfOk result (λ t. All (λ is. is ≡ false) t.chosen.items) }
+        ensures unhooked { IfOk result (λ t. AreUnhooked t.hooks.targets.items t.hooks.edges.items) }
     {
         let count = n as usize + 1;
         let hooks = Hooks::new(alloc, count)?;
@@ -85,33 +86,36 @@ impl Tables {
         })
     }
 
-    /// Finds the best keys of the arcs, which are the first winners of the labels from `first` on and before `past`.
+    /// Moves the ends of the arcs to where the hooks' targets lead, and finds the best keys, which are the first winners of the
+    /// labels from `first` on and before `past`. Unhooks all labels.
     pub(crate) fn begin_phase(&mut self, first: u32, past: u32)
         requires order { first ≤ past }
         requires within { past ≤ length self.old.labels.items }
-        ensures kept { locals self.new.arcs.items ≡ filter (is_apart (slice_index self.new.labels.items)) (locals self.old.arcs.items) }
-        ensures leasts { AreLeasts (locals self.old.arcs.items) (slice_index self.new.labels.items) self.new.keys.items self.new.across.items }
+        ensures kept { locals self.new.arcs.items
+            ≡ map (relabelled (slice_index self.old.hooks.targets.items)) (filter (is_apart (slice_index self.old.hooks.targets.items)) (locals self.old.arcs.items)) }
+        ensures leasts { AreLeasts (locals self.old.arcs.items) (slice_index self.old.hooks.targets.items) self.new.keys.items self.new.across.items }
         ensures begun { AreBegun self.new.keys.items first past self.new.winners.items }
         ensures unhooked { AreUnhooked self.new.hooks.targets.items self.new.hooks.edges.items }
         ensures same_labels { self.new.labels.items ≡ self.old.labels.items }
         ensures same_chosen { self.new.chosen.items ≡ self.old.chosen.items }
     {
-        self.clear_hooks();
         self.gather_arcs();
+        self.clear_hooks();
         self.begin_winners(first, past);
     }
 
-    // Keeps the arcs whose ends differ in label, and finds the best keys.
+    // Moves the ends of the arcs to where the hooks' targets lead, keeps the arcs whose ends differ then, and finds the best keys.
     fn gather_arcs(&mut self)
-        ensures kept { locals self.new.arcs.items ≡ filter (is_apart (slice_index self.new.labels.items)) (locals self.old.arcs.items) }
-        ensures leasts { AreLeasts (locals self.old.arcs.items) (slice_index self.new.labels.items) self.new.keys.items self.new.across.items }
+        ensures kept { locals self.new.arcs.items
+            ≡ map (relabelled (slice_index self.old.hooks.targets.items)) (filter (is_apart (slice_index self.old.hooks.targets.items)) (locals self.old.arcs.items)) }
+        ensures leasts { AreLeasts (locals self.old.arcs.items) (slice_index self.old.hooks.targets.items) self.new.keys.items self.new.across.items }
         ensures same_labels { self.new.labels.items ≡ self.old.labels.items }
         ensures same_chosen { self.new.chosen.items ≡ self.old.chosen.items }
         ensures same_hooks { self.new.hooks ≡ self.old.hooks }
     {
         gather(
             &mut self.arcs,
-            &self.labels,
+            &self.hooks.targets,
             &mut self.keys,
             &mut self.across,
         );
@@ -168,12 +172,12 @@ impl Tables {
         self.hooks.note_own(&self.keys, &self.across, &self.winners);
     }
 
-    /// Chooses the edges of the hooks, and moves the labels along their pointers.
+    /// Chooses the edges of the hooks, and moves the labels along their pointers. The hooks' targets change to where they lead.
     pub(crate) fn end_phase(&mut self)
         ensures marked { AreMarked self.old.hooks.edges.items self.old.chosen.items self.new.chosen.items }
         ensures same_edges { length self.new.chosen.items ≡ length self.old.chosen.items }
         ensures moved { AreMoved MAX_VERTICES self.old.hooks.targets.items self.old.labels.items self.new.labels.items }
-        ensures together { AreTogether self.old.labels.items self.new.labels.items }
+        ensures mapped { self.new.labels.items ≡ map (slice_index self.new.hooks.targets.items) self.old.labels.items }
         ensures same_count { length self.new.labels.items ≡ length self.old.labels.items }
         ensures same_arcs { self.new.arcs.items ≡ self.old.arcs.items }
     {

@@ -1,7 +1,6 @@
 use Rattle.std.proofs.Common.{◌<◌, All, subst, sym}
-use Rattle.std.specs.Prelude.{slice_index}
 use Rattle.pg_base.specs.declared.TheConstants.{MAX_VERTICES}
-use Rattle.pg_boruvka.proofs.PointerMoves.{moved_along, mapped_together}
+use Rattle.pg_boruvka.proofs.PointerMoves.{moved_along}
 use Rattle.pg_boruvka.proofs.pointers.move_to_ends.Goals as goal
 
 pub returns-clause-moved : goal.returns-clause-moved
@@ -10,7 +9,3 @@ returns-clause-moved c =
     c.point.ensures.points c.point.ensures.within c.shorten.ensures.shortened
     (subst (λ n. All (λ l. l < n) c.args.labels.now) (sym c.point.ensures.same_count) c.requires.labels)
     c.move_labels.ensures.moved
-
-pub returns-clause-together : goal.returns-clause-together
-returns-clause-together c =
-    mapped_together (slice_index c.shorten.new.pointers) c.args.labels.now c.move_labels.new.labels c.move_labels.ensures.moved

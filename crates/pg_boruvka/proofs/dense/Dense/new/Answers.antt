@@ -1,15 +1,13 @@
-use Rattle.std.proofs.Common.{◌≡◌, ℕ, ◌+◌, ◌≤◌, Bool, false, Vec, Global, List, All, length, refl, sym, ap, ◌∙◌, subst, arith}
+use Rattle.std.proofs.Common.{◌≡◌, ℕ, ◌+◌, Bool, false, Vec, Global, List, All, length, refl, sym, ap, ◌∙◌, subst, arith}
 use Rattle.std.specs.Prelude.{slice_index}
 use Rattle.std.proofs.lemmas.List.Elements.{All-contains}
 use Rattle.pg_adj.specs.Portions.{Portion, IsPortion}
 use Rattle.pg_boruvka.specs.declared.arcs.DenseArc.{DenseArc}
-use Rattle.pg_boruvka.specs.Arcs.{IsInTables, locals, is_apart, AreLeasts}
+use Rattle.pg_boruvka.specs.Arcs.{IsInTables, locals}
 use Rattle.pg_boruvka.specs.Orderly.{IsOrderly}
 use Rattle.pg_boruvka.specs.Portions.{arcs_below}
-use Rattle.pg_boruvka.specs.Known.{view_of}
 use Rattle.pg_boruvka.proofs.OrderlyArcs.{orderly_arcs, in_tables}
 use Rattle.pg_boruvka.proofs.NewViews.{new_view}
-use Rattle.pg_boruvka.proofs.Regular.{regular_of}
 use Rattle.pg_boruvka.proofs.dense.Dense.new.Goals as goal
 
 pub new-requires-clause-ends : goal.new-requires-clause-ends
@@ -52,10 +50,12 @@ returns-clause-new c =
     let arcs : locals c.in-Ok.tables.arcs.items ≡ arcs_below value (length value.vertices) =
     ap (λ (x : Vec DenseArc Global). locals x.items) made.arcs ∙ (said.locals ∙ ap (λ (x : Portion). arcs_below x (length x.vertices)) (sym same)) in
     record {
-      view = new_view _ (locals c.in-Ok.tables.arcs.items) c.own_labels-first.result.0 c.own_labels-first.result.1 refl refl refl refl refl refl arcs begun.kept begun.leasts begun.begun
+      view = new_view _ (locals c.in-Ok.tables.arcs.items) c.in-Ok.tables.hooks.targets.items c.own_labels-first.result.0 c.own_labels-first.result.1
+          refl refl refl refl refl refl arcs begun.kept begun.leasts begun.begun
           c.own_labels-first.ensures.first c.own_labels-first.ensures.past portion.rank (λ a among. All-contains (IsOrderly value.n) (arcs_below value (length value.vertices)) a orderly among)
           (t.each_key ∙ each) (t.each_winner ∙ each)
           (λ x last. ap (λ (l : List ℕ). slice_index l x) begun.same_labels ∙ made.labels x (omega (arith, last, count)))
+          (λ x last. made.unhooked.still x (omega (arith, last, count, c.in-Ok.tables.each_target)))
           (subst (λ (x : List Bool). All (λ (is : Bool). is ≡ false) x) (sym begun.same_chosen) made.unchosen);
       idle = refl;
     }

@@ -1,4 +1,4 @@
-use Rattle.std.proofs.Common.{◌≡◌, ℕ, ◌+◌, Bool, List, None, length, filter, sym, ap, ◌∙◌, subst}
+use Rattle.std.proofs.Common.{◌≡◌, ℕ, ◌+◌, Bool, List, None, length, map, filter, sym, ap, ◌∙◌, subst}
 use Rattle.std.specs.Prelude.{slice_index}
 use Rattle.std.proofs.lemmas.Bool.{true≢false}
 use Rattle.pg_base.specs.declared.TheConstants.{MAX_VERTICES}
@@ -6,10 +6,10 @@ use Rattle.pg_group.specs.Supersteps.{append_marks}
 use Rattle.pg_boruvka.specs.declared.arcs.DenseArc.{DenseArc}
 use Rattle.pg_boruvka.specs.declared.dense.Stage.TheVariants as stage
 use Rattle.pg_boruvka.specs.Portions.{part_of}
-use Rattle.pg_boruvka.specs.Arcs.{locals, is_apart, AreLeasts}
+use Rattle.pg_boruvka.specs.Arcs.{locals, relabelled, is_apart, AreLeasts}
 use Rattle.pg_boruvka.specs.Chosen.{AreMarked}
 use Rattle.pg_boruvka.specs.Phasing.{count_of}
-use Rattle.pg_boruvka.specs.Pointers.{AreMoved, AreTogether}
+use Rattle.pg_boruvka.specs.Pointers.{AreMoved}
 use Rattle.pg_boruvka.specs.Known.{View, Known, view_of, known_in, with_known, with_hooks, in_stage}
 use Rattle.pg_boruvka.specs.Shown.{HasChosen}
 use Rattle.pg_boruvka.proofs.RoundsEnding.{own_vote, up_keeps, down_keeps, stop_keeps, phase_keeps}
@@ -96,9 +96,9 @@ returns-in-Hook-clause-kept c = λ start handled sent kept.
           (phase_keeps MAX_VERTICES handled sent (view_of d) (regular_of d) kept.chosen c.args._votes.now vote.0 c.requires.running c.requires.each vote.1
           (known_in t) same_edges c.own_labels-first.result.0 c.own_labels-first.result.1 c.in-Hook.is
           (subst (λ (x : List ℕ). AreMoved MAX_VERTICES d.tables.hooks.targets.items d.tables.labels.items x) (sym begun.same_labels) ended.moved)
-          (subst (λ (x : List ℕ). AreTogether d.tables.labels.items x) (sym begun.same_labels) ended.together)
+          mid.hooks.targets.items (begun.same_labels ∙ ended.mapped)
           (subst (λ (x : List Bool). AreMarked d.tables.hooks.edges.items d.tables.chosen.items x) (sym begun.same_chosen) ended.marked)
-          (subst (λ (x : List DenseArc). locals t.arcs.items ≡ filter (is_apart (slice_index t.labels.items)) (locals x)) ended.same_arcs begun.kept)
-          (subst (λ (x : List DenseArc). AreLeasts (locals x) (slice_index t.labels.items) t.keys.items t.across.items) ended.same_arcs begun.leasts)
+          (subst (λ (x : List DenseArc). locals t.arcs.items ≡ map (relabelled (slice_index mid.hooks.targets.items)) (filter (is_apart (slice_index mid.hooks.targets.items)) (locals x))) ended.same_arcs begun.kept)
+          (subst (λ (x : List DenseArc). AreLeasts (locals x) (slice_index mid.hooks.targets.items) t.keys.items t.across.items) ended.same_arcs begun.leasts)
           begun.begun c.own_labels-first.ensures.first c.own_labels-first.ensures.past (t.each_key ∙ each) (t.each_winner ∙ each));
     }

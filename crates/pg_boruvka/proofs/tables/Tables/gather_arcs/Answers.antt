@@ -1,4 +1,4 @@
-use Rattle.std.proofs.Common.{ℕ, ◌<◌, ◌≡◌, ◌≤◌, ◌∙◌, All, List, length, ap, subst, sym, arith}
+use Rattle.std.proofs.Common.{ℕ, ◌<◌, ◌∙◌, All, List, length, ap, subst, sym, arith}
 use Rattle.pg_boruvka.specs.Arcs.{IsOfEdge}
 use Rattle.pg_boruvka.proofs.Unhooked.{written}
 use Rattle.pg_boruvka.proofs.tables.Tables.gather_arcs.Goals as goal
@@ -18,12 +18,12 @@ invariant_of-self c =
       each_winner = t.each_winner;
       each_target = t.each_target;
       each_hook = t.each_hook;
-      arcs_in = said.ends (length t.labels.items) (length t.chosen.items) t.arcs_in;
+      arcs_in = said.ends (length t.labels.items) (length t.chosen.items) (subst (λ (x : List ℕ). All (λ (l : ℕ). l < length t.labels.items) x) (sym c.deref.ensures.value) t.targets_in) t.arcs_in;
       labels_in = t.labels_in;
       keys_in = subst (λ (x : List ℕ). All (IsOfEdge (length t.chosen.items)) x) (sym keys) (said.edges (length t.labels.items) (length t.chosen.items) t.few_edges t.arcs_in);
       across_in = subst (λ (x : List ℕ). All (λ (l : ℕ). l < length t.labels.items) x) (sym across) (said.targets (length t.labels.items)
           (subst (λ (x : List ℕ). All (λ (l : ℕ). l < length t.labels.items) x) (sym c.deref_mut-2.ensures.value) t.across_in)
-          (subst (λ (x : List ℕ). All (λ (l : ℕ). l < length t.labels.items) x) (sym c.deref.ensures.value) t.labels_in));
+          (subst (λ (x : List ℕ). All (λ (l : ℕ). l < length t.labels.items) x) (sym c.deref.ensures.value) t.targets_in));
       targets_in = t.targets_in;
       hooks_in = t.hooks_in;
     }
