@@ -1,4 +1,4 @@
-//! What a relaxation makes its ranks' agendas by.
+//! How a relaxation makes the agendas of its ranks.
 ghost use Rattle.std.specs.Prelude.{◌≡◌, ◌≤◌, ℕ, Bool, IfOk};
 ghost use Rattle.pg_agenda.specs.declared.shares.Share.{Share};
 ghost use Rattle.pg_agenda.specs.Shares.{AreNone};
@@ -12,7 +12,7 @@ pub(crate) trait Agendas<A: Agenda> {
     /// Which share takes an arc, by its weight.
     ghost takes: { Self → Share → ℕ → Bool };
 
-    /// An agenda of this many places, none of them pending.
+    /// An agenda of the places from 0 to `count - 1`, none of them pending. `Err` says that the run is out of memory.
     fn agenda(&self, alloc: Global, count: u32) -> Result<A, OutOfMemory>
         ensures count { IfOk result (λ agenda. A.count agenda ≡ count) }
         ensures none { IfOk result (λ agenda. AreNone (A.pending agenda)) }
@@ -33,7 +33,7 @@ impl Agendas<Levels> for ByLevel {
     }
 }
 
-/// Places in the order of delta-stepping, by buckets of this width.
+/// Places in the order of delta-stepping, by buckets of the width `delta`, in units of weight.
 #[derive(Clone, Copy, Debug)]
 pub(crate) struct ByBucket {
     pub(crate) delta: u32,

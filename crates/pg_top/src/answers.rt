@@ -17,7 +17,7 @@ pub(crate) enum Answers {
     Summary(Summary),
 }
 
-/// Writes the text of the answers.
+/// Writes the text of the answers. `Err` says that a write failed; a front of the text may be written then.
 pub(crate) fn print_answers<S: Sink>(out: &mut S, answers: &Answers) -> Result<(), Failed>
     ensures ok { OnOk result (Appends (S.text out.old) (S.text out.new) (text_in answers.now)) }
     ensures err { OnErr result (AppendsFront (S.text out.old) (S.text out.new) (text_in answers.now)) }

@@ -64,7 +64,7 @@ fn colour_parts<W: Threads + Wait + Sync, G: Gate>(
     Ok(run(token, group, crew.threads, gate))
 }
 
-/// Divides the graph as `dist` says, and colours it over the ranks until all have ended. The graph is let go once it is divided.
+/// Divides the graph as `dist` says, and colours it over the ranks until all have ended. The graph is freed once it is divided.
 fn colour<W: Threads + Wait + Sync, D: Distribution, G: Gate>(
     token: &W,
     alloc: Global,
@@ -161,7 +161,7 @@ fn colour_input<W: Threads + Wait + Sync, G: Gate>(
     }
 }
 
-/// Proper colours, on one rank those of first fit.
+/// Proper colours, numbered from 0, on one rank those of first fit. `Err` says that the run is out of memory.
 pub(crate) fn proper_colours<W: Threads + Wait + Sync, G: Gate>(
     token: &W,
     alloc: Global,

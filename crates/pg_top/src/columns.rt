@@ -1,3 +1,4 @@
+//! Answers as they are printed: a number for each vertex, or edges of a graph.
 ghost use Rattle.std.specs.Prelude.{◌<◌, ◌≤◌, All, length};
 ghost use Rattle.pg_base.specs.declared.TheConstants.{MAX_VERTICES};
 
@@ -11,7 +12,7 @@ pub(crate) enum Field {
     Class,
 }
 
-/// A number for each vertex or none, that of vertex v at place v - 1.
+/// A number or none for each vertex, that of vertex v at place v - 1.
 #[derive(Drop)]
 pub(crate) struct Numbers {
     pub of_vertices: Vec<Option<u64>>,
@@ -30,7 +31,7 @@ impl Column for Numbers {
     }
 }
 
-/// Edges of a graph, by their indices.
+/// Edges of a graph, by their indices in its list, from 0.
 #[derive(Drop)]
 pub(crate) struct Tree {
     pub graph: EdgeList,

@@ -1,3 +1,4 @@
+//! The program as one call: plans, reads, runs and writes.
 ghost use Rattle.std.specs.Prelude.{◌≡◌, ◌<◌, ◌≤◌, ◌⊎◌, None, Some, List, ℕ, IfOk, IfErr, OnOk, OnErr};
 ghost use Rattle.std.specs.Io.KnownBytes.{Appends};
 ghost use Rattle.pg_outside.specs.Faults.{Rose};
@@ -148,7 +149,8 @@ fn run<W: Threads + Wait + Sync, I: Inputs, S: Sink, G: Gate>(
     }
 }
 
-/// Runs the program: the words after its name, a source of files, standard output and standard error.
+/// Runs the program: the words after its name, a source of files, standard output and standard error. `token` starts the
+/// threads, and each rank passes `gate` before each of its turns.
 ///
 /// With status `Ok`, `out` grew by exactly the text of the words' plan for its graph: that of which the plan's file is one,
 /// or the grid that the words describe. This is a line for each vertex from 1 to n: for `bfs` the least number of arcs of a
@@ -156,19 +158,22 @@ fn run<W: Threads + Wait + Sync, I: Inputs, S: Sink, G: Gate>(
 /// vertex that a walk joins to it, and for `colour` a colour from 0, at most its degree, that no neighbour has, on one rank
 /// the colour of first fit. For `forest` it is a line `u v w` for each edge of the least spanning forest, ascending, ties in
 /// weight going by (u, v), and then `total T` with the sum of the weights; no edges that span weigh less. For `grid` it is
-/// seven lines with numbers that are counted from what the algorithms answer, distances from vertex 1; the last one tells
+/// seven lines with numbers that are counted from what the algorithms answer, distances from vertex 1; the last one says
 /// that no edge has ends of one colour. But for colours the text is the same for every number of ranks and threads, every
-/// capacity of lanes and every partition file. With every other status one line that tells the fault was written to `errs`,
+/// capacity of lanes and every partition file. With every other status one line that names the fault was written to `errs`,
 /// whose own faults change nothing.
 ///
 /// The first fault that is met is answered, in this order: the words (`BadWords`), beginning and reading the
 /// graph file (`ReadFault`, `BadGraph`), beginning and reading the partition file (`ReadFault`, `BadParts`), the source
-/// (`BadSource`), the writing (`WriteFault`, after a front of the text). Want of memory (`NoMemory`) may come
+/// (`BadSource`), the writing (`WriteFault`, after a front of the text). Being out of memory (`NoMemory`) may come
 /// before the first write to `out`. Nothing is written to `out` with any status but `Ok` and `WriteFault`. Where the
 /// words have no plan, and for a grid, no name is begun and nothing is read.
 ///
 /// With `Ok` and `WriteFault` the final programs and the settled lanes of this very run are handed back, which hold what
 /// the text spells.
+///
+/// Source: each algorithm's is named with its type: `Levels` for `bfs`, `Buckets` for `sssp`, `Relax` for `components`, `Dense`
+/// for `forest`, `Colouring` for `colour`.
 pub fn command<W: Threads + Wait + Sync, I: Inputs, S: Sink, E: Sink, G: Gate>(
     token: &W,
     alloc: Global,
@@ -205,7 +210,7 @@ pub fn command<W: Threads + Wait + Sync, I: Inputs, S: Sink, E: Sink, G: Gate>(
         (λ plan. Rose (S.faults out.old) (S.faults out.new) ×
         HasText plan (I.files inputs.old) (AppendsFront (S.text out.old) (S.text out.new))) }
 
-    // And there, unless memory was wanting.
+    // And wherever the cause stands, unless the run is out of memory.
     ensures no_plan { plan_of (texts words.now) ≡ None → IsOrNoMemory Status.BadWords result.status }
     ensures malformed { (plan : Meaning) (text : List ℕ) (fault : FirstFault) →
         Tells (texts words.now) (I.files inputs.old) plan text → fault_of text ≡ Some fault →
@@ -226,7 +231,7 @@ pub fn command<W: Threads + Wait + Sync, I: Inputs, S: Sink, E: Sink, G: Gate>(
     ensures complete_grid { (plan : Meaning) → plan_of (texts words.now) ≡ Some plan → plan.algorithm ≡ Algorithm.Grid →
         (Rose (S.faults out.old) (S.faults out.new) → ⊥) → IsOrNoMemory Status.Ok result.status }
 
-    // What is told of a fault.
+    // What is reported of a fault.
     ensures quiet { result.status ≡ Status.Ok → errs.new ≡ errs.old }
     ensures reports { (result.status ≡ Status.Ok → ⊥) → (fault : Fault) ×
         (result.status ≡ status_of fault) ×

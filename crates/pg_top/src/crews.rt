@@ -1,8 +1,9 @@
+//! What a plan asks of the ranks that run its algorithm.
 ghost use Rattle.std.specs.Prelude.{◌≤◌};
 
 use pg_base::Ranks;
 
-/// By how many ranks and threads a plan's program is run, over lanes of how many messages.
+/// How many ranks and threads run a plan's algorithm, and how many messages a lane between two ranks holds, from 1 to 1024.
 #[derive(Clone, Copy, Debug)]
 pub(crate) struct Crew {
     pub(crate) ranks: Ranks,

@@ -118,7 +118,7 @@ fn grow_input<W: Threads + Wait + Sync, G: Gate>(
     }
 }
 
-/// The indices of the edges that the first program holds.
+/// The indices, from 0, of the edges that the first program holds.
 fn indices_of(alloc: Global, programs: &[Dense]) -> Result<Vec<u32>, OutOfMemory>
     requires { 1 ≤ length programs.now }
     ensures { IfOk result (λ indices. (first : Dense) → slice_get programs.now 0 ≡ Some first → indices.items ≡ edges_in first) }
@@ -126,7 +126,7 @@ fn indices_of(alloc: Global, programs: &[Dense]) -> Result<Vec<u32>, OutOfMemory
     programs[0].edges(alloc)
 }
 
-/// The least spanning forest, which every rank holds when all have ended.
+/// The least spanning forest, which every rank holds when all have ended. `Err` says that the run is out of memory.
 pub(crate) fn least_forest<W: Threads + Wait + Sync, G: Gate>(
     token: &W,
     alloc: Global,

@@ -93,7 +93,8 @@ fn colour<W: Threads + Wait + Sync, G: Gate>(
     proper_colours(token, alloc, input, crew, gate)
 }
 
-/// Runs every algorithm over the graph in turn, a breadth-first search and components in one run, and counts what they answer.
+/// Runs every algorithm over the graph in turn, a breadth-first search and components in one run, and counts what they
+/// answer. Distances are those from vertex 1. `Err` says that the run is out of memory.
 pub(crate) fn summarize<W: Threads + Wait + Sync, G: Gate>(
     token: &W,
     alloc: Global,

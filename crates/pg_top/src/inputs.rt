@@ -1,4 +1,4 @@
-//! What the files of a plan say: its graph, and the owners of the vertices.
+//! What a plan's algorithm computes with: its graph, of a file or a grid, and the owners of the vertices.
 ghost use Rattle.std.specs.Prelude.{◌≡◌, ◌<◌, ◌≤◌, All, IfOk, IfErr, None, OnOk, true, false, vec_len};
 ghost use Rattle.std.specs.Option.{ForSome, option_map};
 ghost use Rattle.pg_make.specs.Grid.{grid_of};
@@ -20,7 +20,7 @@ use std::alloc::Global;
 #[derive(Drop)]
 pub(crate) struct Input {
     pub(crate) graph: EdgeList,
-    /// Entry v - 1 is the rank that owns vertex v.
+    /// Entry v - 1 is the rank that owns vertex v, from 0.
     pub(crate) owners: Option<Vec<u32>>,
 }
 

@@ -1,6 +1,5 @@
-//! What the definitions of this crate's `specs/` say of small graphs, and what
-//! follows from them in general. No call does anything: each is proved to meet the laws that its clauses
-//! state.
+//! What the definitions of this crate's `specs/` say of small graphs, and what follows from them in general. No call does
+//! anything: each is proved to meet the laws that its clauses state.
 
 ghost use Rattle.std.specs.Prelude.{codes, []};
 ghost use Rattle.pg_base.specs.Examples.{graph, path_edges, triangle_edges};

@@ -203,7 +203,7 @@ fn search_over<W: Threads + Wait + Sync, D: Distribution, G: Gate>(
 /// both relaxations share the lanes, and their votes the marks. The vertices are divided in blocks. A source that is no vertex
 /// leads nowhere.
 ///
-/// `OutOfMemory` comes only where memory is wanting.
+/// `Err` says that the run is out of memory.
 ///
 /// Source: Gregor and Lumsdaine, Lifting sequential graph algorithms for distributed-memory parallel computation (OOPSLA 2005):
 /// several triggers over one process group.

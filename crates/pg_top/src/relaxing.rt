@@ -70,7 +70,7 @@ pub(crate) fn relax_parts<
     Ok(run(token, group, crew.threads, gate))
 }
 
-/// Divides the graph as `dist` says, and relaxes over its ranks until all have ended. The graph is let go once it is divided.
+/// Divides the graph as `dist` says, and relaxes over its ranks until all have ended. The graph is freed once it is divided.
 pub(crate) fn relax<
     W: Threads + Wait + Sync,
     D: Distribution,

@@ -222,7 +222,7 @@ fn lowest<W: Threads + Wait + Sync, G: Gate>(
     )
 }
 
-/// Runs the plan's algorithm over its graph.
+/// Runs the plan's algorithm over its graph. `Err` says that the run is out of memory.
 pub(crate) fn solve<W: Threads + Wait + Sync, G: Gate>(
     token: &W,
     alloc: Global,

@@ -81,7 +81,7 @@ fn total(edges: &[Edge], indices: &[u32]) -> u64
     total
 }
 
-/// What the answers of all algorithms on a graph come to.
+/// The summary of a graph, counted from what each algorithm answers on it. An answer for vertex v stands at place v - 1.
 pub(crate) fn summary(
     graph: &EdgeList,
     hops: &[Option<u64>],

@@ -1,3 +1,4 @@
+//! The greatest weight of a graph.
 ghost use Rattle.std.specs.Prelude.{◌≤◌, All};
 ghost use Rattle.pg_base.specs.Graph.{IsGraph};
 

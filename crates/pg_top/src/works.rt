@@ -1,3 +1,4 @@
+//! What a run leaves: its status, its final programs and its lanes.
 use pg_agenda::{Buckets, Levels};
 use pg_base::Status;
 use pg_boruvka::Dense;
@@ -7,8 +8,8 @@ use pg_relax::Relax;
 use pg_run::Finished;
 use pg_triggers::Pair;
 
-/// What a run leaves beside its texts: the final programs of its ranks, by rank, and the lanes between them, ascending
-/// in (sender, receiver).
+/// What a run leaves beside its texts: the final programs of its ranks, by rank from 0, and the settled lanes between
+/// them, ascending in (sender, receiver).
 #[derive(Drop)]
 pub enum Work {
     /// No algorithm ran, or none to its end.
@@ -23,12 +24,15 @@ pub enum Work {
     Forest(Finished<Dense>),
     /// Those of a colouring.
     Colours(Finished<Colouring>),
-    /// Those of all of them on a grid: of a breadth-first search and of components in one run, of least weights, of a
-    /// least spanning forest and of a colouring.
+    /// Those of all of them on a grid.
     Grid {
+        /// Of a breadth-first search and of components, in one run.
         both: Finished<Pair<Relax<Hops, Levels>, Relax<Root, Levels>>>,
+        /// Of least weights, by delta-stepping.
         weights: Finished<Relax<Weight, Buckets>>,
+        /// Of a least spanning forest.
         forest: Finished<Dense>,
+        /// Of a colouring.
         colours: Finished<Colouring>,
     },
 }
@@ -36,6 +40,8 @@ pub enum Work {
 /// How a run ended, and what it leaves.
 #[derive(Drop)]
 pub struct Answer {
+    /// `Ok`, or the first fault that was met.
     pub status: Status,
+    /// `Work::None` where the algorithm didn't run to its end.
     pub work: Work,
 }
