@@ -31,7 +31,7 @@ other_beside (x ∷ xs) (z ∷ ys) long zero y at = (x, refl)
 other_beside (x ∷ xs) (z ∷ ys) long (suc k) y at = other_beside xs ys (omega arith) k y at
 
 -- the entry from which an entry of a mapped list was made
-entry_from_map : {X Y : Type 0} (f : X → Y) (xs : List X) (k : ℕ) (y : Y) → slice_get (map f xs) k ≡ Some y → (x : X) × (slice_get xs k ≡ Some x) × (f x ≡ y)
+pub entry_from_map : {X Y : Type 0} (f : X → Y) (xs : List X) (k : ℕ) (y : Y) → slice_get (map f xs) k ≡ Some y → (x : X) × (slice_get xs k ≡ Some x) × (f x ≡ y)
 entry_from_map f [] k y at = absurd (cc at)
 entry_from_map f (x ∷ xs) zero y at = let same : f x ≡ y = cc in (x, refl, same)
 entry_from_map f (x ∷ xs) (suc k) y at = entry_from_map f xs k y at

@@ -5,3 +5,13 @@ pub mod Hearing
 pub mod Telling
 pub mod Beside
 pub mod WholeRuns
+pub mod Events
+pub mod RoundItems
+pub mod Keeping
+pub mod Opening
+pub mod Listed
+pub mod Synchronized
+pub mod HeldDegrees
+pub mod NeighboursOf
+pub mod NeighbourLaws
+pub mod Looking

@@ -32,7 +32,7 @@ entry_below [] k h = absurd (omega arith)
 entry_below (x ∷ xs) zero h = (x, refl)
 entry_below (x ∷ xs) (suc k) h = entry_below xs k (omega arith)
 
-past_end : {X : Type 0} (lists : List (List X)) (k : ℕ) → length lists ≤ k → list_at lists k ≡ []
+pub past_end : {X : Type 0} (lists : List (List X)) (k : ℕ) → length lists ≤ k → list_at lists k ≡ []
 past_end [] k h = refl
 past_end (l ∷ ls) zero h = absurd (omega arith)
 past_end (l ∷ ls) (suc k) h = past_end ls k (omega arith)
@@ -140,7 +140,7 @@ module _ (parts : List Portion) (programs : List Degrees) (lanes : List (Settled
 -- ---- the graph
 
 module _ (s : Sharing) (laws : IsSharing s) (g : Graph) (graph : IsGraph g) (n : g.n ≡ s.n) (parts : List Portion) (divided : Divided s g parts) where
-  part_is : (r : ℕ) (p : Portion) → slice_get parts r ≡ Some p → IsPartOf s g (map (λ q. q.ghosts) parts) r p
+  pub part_is : (r : ℕ) (p : Portion) → slice_get parts r ≡ Some p → IsPartOf s g (map (λ q. q.ghosts) parts) r p
   part_is r p at =
       let within = slice_get_within parts r p at in
       subst (IsPartOf s g (map (λ q. q.ghosts) parts) r) (get_or_from_slice_get parts r p p at) (divided.part r p (omega (arith, within, divided.count)))
@@ -148,7 +148,7 @@ module _ (s : Sharing) (laws : IsSharing s) (g : Graph) (graph : IsGraph g) (n :
   pub in_order : (r : ℕ) (p : Portion) → slice_get parts r ≡ Some p → (p.rank ≡ r) × (p.ranks ≡ length parts)
   in_order r p at = let part = part_is r p at in (part.rank, part.ranks ∙ sym divided.count)
 
-  row_degree : (r : ℕ) (p : Portion) → slice_get parts r ≡ Some p → (i : ℕ) → i < length p.vertices → degree g.edges (slice_index p.vertices i) ≡ length (row_of p.bounds p.arcs i)
+  pub row_degree : (r : ℕ) (p : Portion) → slice_get parts r ≡ Some p → (i : ℕ) → i < length p.vertices → degree g.edges (slice_index p.vertices i) ≡ length (row_of p.bounds p.arcs i)
   row_degree r p at i within =
       let v = slice_index p.vertices i in
       let part = part_is r p at in

@@ -1,5 +1,9 @@
 pub mod Greatest
 pub mod Degrees
+pub mod Neighbours
 pub mod DegreeLaws
 pub mod Kept
 pub mod Runs
+pub mod DegreeMaps
+pub mod Synchronizing
+pub mod MapRuns

@@ -5,7 +5,7 @@ use crate::Degrees;
 use pg_base::{RankNo, Ranks};
 use pg_group::{Narrow, Next, Outbox, Program, Vote, Worked};
 
-const ZEROS: Vote = Vote {
+pub(crate) const ZEROS: Vote = Vote {
     a: 0,
     b: 0,
     c: 0,
