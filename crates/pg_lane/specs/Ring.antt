@@ -1,4 +1,4 @@
--- The rule of a ring, and what each step on it tells.
+-- The rule of a ring, and what an end knows after each step.
 -- Word 0, the head, is how many messages were taken, and word 16, the tail, how many were sent, both modulo 2^64.
 -- The message of place p lies in slot p modulo the number of slots.
 use Rattle.std.specs.Prelude.{◌≡◌, ℕ, zero, suc, ◌+◌, ◌-◌, ◌%◌, ◌^◌, ◌<◌, ◌≤◌, ◌⊎◌, Bool, true, false, List, [], ◌∷◌, ◌++◌, length, slice_index_or, Option, Some, None}
@@ -124,8 +124,8 @@ module _ {M : Type 0} where
   abbrev pub shows_rest : Step (Option M) → Seated M → ℕ → Seated M → Type 0
   shows_rest st m found m' = (m'.0 ≡ m.0) × (m'.1 ≡ m.1) × ((items : List M) × (m.0.sent ≡ m.0.taken ++ items) × (length items ≤ st.slots))
 
-  -- Of the other end a step tells only what it saw. It is no look, and nothing that was seen changes, or it is a load of the
-  -- other end's word: one more look, which shows the number found.
+  -- A step says no more of the other end than what it saw. Either it is no look, and nothing that was seen changes, or
+  -- it is a load of the other end's word: one more look, which shows the number found.
   abbrev pub TellsWhatItSaw : ℕ → (Step (Option M) → Seated M → ℕ → Seated M → Type 0) → Type 0
   TellsWhatItSaw other play = (st : Step (Option M)) (m : Seated M) (found : ℕ) (m' : Seated M) → play st m found m'
       → ((m'.0.looks ≡ m.0.looks) × (m'.0.shown ≡ m.0.shown))

@@ -2,8 +2,9 @@
 //! laws that its clauses state.
 ghost use Rattle.pg_lane.specs.Ring.{TellsWhatItSaw, saw_taken, sends, saw_sent, receives, lets_go, shows_rest};
 
-/// Whatever counts as a look of an end is a load of the other end's word, and shows the number that this load found. The
-/// writer's other word is the head, the reader's the tail.
+/// Whatever counts as a look of an end is a load of the other end's word, and shows the number that this load found.
+/// For the writer that word is the head, word 0, and for the reader the tail, word 16. No other step changes what was
+/// seen.
 pub fn ends_tell_what_they_saw<M>()
     ensures saw_taken { TellsWhatItSaw {M = M} 0 saw_taken }
     ensures sends { TellsWhatItSaw {M = M} 0 sends }

@@ -1,3 +1,4 @@
+//! Lanes over a ring of slots: one end counts the messages that it sent, the other those that it took.
 ghost use Rattle.std.specs.Prelude.{◌≡◌, ◌+◌, ◌%◌, ◌^◌, ◌<◌, ◌≤◌, true, false, [], ◌∷◌, ◌++◌, length, IfOk, IfSome, OnOk};
 ghost use Rattle.std.specs.Arc.{arc_value};
 ghost use Rattle.pg_lane.specs.Ring.{free_slot, full_slot, held, one, spare};
@@ -17,7 +18,8 @@ const TAIL: usize = 16;
 
 const WORDS: usize = 17;
 
-/// Lanes over a ring of slots, whose ends never wait for one another.
+/// Lanes over a ring of slots, one for each message that a lane holds at most. The ends never wait for one another.
+/// Only `make` allocates.
 pub struct RingLanes;
 
 /// The end of a ring that pushes.

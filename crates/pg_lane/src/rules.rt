@@ -1,4 +1,4 @@
-//! What is shared by the ends of a ring, the rule that it is under, and what each step tells its end.
+//! What the two ends of a ring share, the rule that holds for it, and what an end knows after each step.
 ghost use Rattle.pg_lane.specs.Ring.{Ring, first_view, saw_taken, sends, saw_sent, receives, lets_go, shows_rest, writer_view, reader_view, both_views, spent_view};
 
 use crate::Shows;
@@ -8,11 +8,15 @@ use std::collections::LinkedList;
 
 /// What a seat at a ring knows. No value of it is made.
 pub struct Knows<M> {
+    /// Whether the seat is that of the end that pushes.
     pub writes: bool,
+    /// Whether the seat is that of the end that pops.
     pub reads: bool,
+    /// The messages pushed, as far as the seat knows them, oldest first.
     pub sent: LinkedList<M>,
     /// How many more messages the writer knows that there is room for.
     pub room: u64,
+    /// The messages popped, as far as the seat knows them, oldest first.
     pub taken: LinkedList<M>,
     /// The message whose slot the reader has.
     pub hand: Option<M>,
@@ -31,10 +35,13 @@ impl<M> TableRule<Option<M>, Knows<M>, ()> for InTurn {
     ghost first = { λ _. first_view };
 }
 
+/// The words and the slots of a ring, which both ends share.
 pub type Board<M> = Table<Option<M>, Knows<M>, (), InTurn, Global>;
 
+/// The seat of an end: what it knows of the ring, and the slots that it has.
 pub type Place<M> = Seat<Option<M>, Knows<M>>;
 
+// The steps. What an end knows after each one is said in `specs/Ring.antt`.
 pub(crate) struct SeesTaken;
 
 impl<M> Play<Option<M>, Knows<M>> for SeesTaken {

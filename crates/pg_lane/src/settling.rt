@@ -1,3 +1,4 @@
+//! A lane that has ended, of any kind.
 ghost use Rattle.std.specs.Prelude.{◌≡◌, ◌+◌, ◌-◌, ◌%◌, ◌^◌, ◌≤◌, length, take};
 
 use crate::Shown;
@@ -28,7 +29,7 @@ impl<M> Settled<M> {
         self.pushed
     }
 
-    /// How many messages were sent and not taken.
+    /// How many messages were sent and not taken, at most the lane's capacity.
     pub fn left(&self) -> u64
         ensures { length (settled_taken self.now) + result ≡ length (settled_sent self.now) }
     {
@@ -40,8 +41,8 @@ impl<M> Settled<M> {
     ghost use Rattle.std.specs.Prelude.{◌≡◌, ◌++◌, ◌+◌, ◌%◌, ◌^◌, ◌≤◌, length, List};
     ghost use Rattle.pg_lane.specs.Settled.{settled_sent, settled_taken, settled_capacity};
 
-    /// The lane, of whatever kind, that ended with these lists and this capacity: so many messages, modulo 2^64, were pushed,
-    /// and so many were left in it.
+    /// A lane of any kind that has ended: the messages sent and those taken, oldest first, and how many it held at
+    /// most. `pushed` is how many were sent, modulo 2^64, and `left` how many of them were not taken.
     pub fn new(
         sent: Shown<LinkedList<M>>,
         taken: Shown<LinkedList<M>>,

@@ -1,3 +1,4 @@
+//! Small lanes filled and emptied by hand, and many messages from one thread to another.
 ghost use Rattle.std.specs.Prelude.{◌≤◌};
 
 use super::*;
