@@ -1,3 +1,4 @@
+//! How the lanes of a group end, once its ranks have run.
 ghost use Rattle.std.specs.Prelude.{◌≡◌, ◌≢◌, ◌+◌, ◌-◌, ◌*◌, ◌^◌, ◌<◌, ◌≤◌, [], ◌∷◌, ◌++◌, length, map, slice_get};
 ghost use Rattle.std.specs.Vec.{vec_capacity};
 ghost use Rattle.pg_group.specs.Entries.{Each};
@@ -10,8 +11,9 @@ use crate::outlanes::OutLane;
 use crate::{Envelope, Mailbox, Outbox, Port};
 use pg_lane::{LaneKind, Settled};
 
-/// Ends the lanes of a group, given all its ports by rank and an empty list with room for one entry for
-/// each lane. Appends the settled lanes, ascending in (sender, receiver). Takes no memory.
+/// Ends the lanes of a group, given all its ports by rank and an empty list with room for one entry for each lane: for
+/// p ranks p (p - 1) lanes. Appends the settled lanes, ascending in (sender, receiver), each with what its two ports
+/// show as sent and taken. Allocates nothing.
 pub fn close_ports<B: Copy + Send, K: LaneKind<Envelope<B>>>(
     mut ports: Vec<Port<B, K>>,
     lanes: &mut Vec<Settled<Envelope<B>>>,

@@ -1,3 +1,4 @@
+//! How the ports of a new group are made, and the lanes between them.
 ghost use Rattle.std.specs.Prelude.{◌≡◌, ◌≤◌, ◌<◌, ◌+◌, ◌-◌, ℕ, false, [], ◌∷◌, ◌++◌, IfOk, OnErr, OnOk, length, map, replicate};
 ghost use Rattle.pg_group.specs.Entries.{Each, GrewTogether};
 ghost use Rattle.pg_group.specs.Grouped.{AreOneGroup};
@@ -10,8 +11,9 @@ use pg_lane::LaneKind;
 use std::alloc::Global;
 use std::marker::PhantomData;
 
-/// The ports of a new group, by rank, with one lane of this capacity for each ordered pair of different
-/// ranks. Nothing was sent, and no round's mark.
+/// The ports of a new group, by rank, with one lane for each ordered pair of different ranks, which holds at most
+/// `capacity` messages, from 1 to 1024. Nothing was sent or taken, and no round's mark. `Err` says that the run is out
+/// of memory.
 pub fn ports<B: Copy + Send, K: LaneKind<Envelope<B>>>(
     token: &K::Token,
     alloc: Global,

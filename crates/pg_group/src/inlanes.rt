@@ -1,3 +1,4 @@
+//! A lane from another rank, which a port takes bodies from.
 ghost use Rattle.std.specs.Prelude.{◌≡◌, true};
 ghost use Rattle.pg_group.specs.Envelopes.{bodies};
 ghost use Rattle.pg_group.specs.Rounds.{ends_with_mark};
@@ -23,17 +24,23 @@ pub trait Takes<B> {
     ghost use Rattle.pg_group.specs.Polls.{OnItem, OnMark, OnEmpty, OnClosed, is_closed};
     ghost use Rattle.atomic_table.specs.Seated.{TableId};
 
+    /// The bodies taken, oldest first.
     ghost got: { Self → List (Body B) };
 
+    /// Whether this round's mark was taken.
     ghost mark_got: { Self → Bool };
 
+    /// Which lane it is.
     ghost lane: { Self → TableId };
 
+    /// What the lane before and after a call shows of a moment in between at which it was empty.
     ghost saw_empty: { Self → Self → Type 0 };
 
+    /// What it may have become by calls on it.
     ghost Later: { Self → Self → Type 0 };
 
-    /// Takes the next body, unless this round's mark was taken before.
+    /// Takes the next body. `Closed` comes exactly where this round's mark was taken before, and `Empty` only where the
+    /// lane was empty at one moment of this call; nothing is taken then.
     fn take(&mut self) -> Polled<B>
         ensures item { OnItem result (λ x. (got self.new ≡ got self.old ++ Item x ∷ []) × (mark_got self.new ≡ mark_got self.old)) }
         ensures mark { OnMark result (λ v. (got self.new ≡ got self.old ++ Mark v ∷ []) × (mark_got self.new ≡ true)) }

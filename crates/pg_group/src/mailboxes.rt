@@ -1,3 +1,4 @@
+//! Where a rank takes the messages that come to it, and sends its own, round by round.
 ghost use Rattle.std.specs.Prelude.{◌≡◌, ℕ, Bool, true, false, List, [], ◌∷◌, ◌++◌, OnOk, OnErr, IfErr, slice_set};
 ghost use Rattle.pg_group.specs.declared.messages.Body.{Body};
 ghost use Rattle.pg_group.specs.declared.messages.Body.TheVariants.{Item, Mark};
@@ -18,15 +19,16 @@ pub trait Mailbox<B>: Outbox<B> {
     /// Whether the mark of this round was taken from each rank, by rank.
     ghost marks_taken: { Self → List Bool };
 
-    /// What the mailbox before and after a call tells of a moment in between at which the lane from a rank
+    /// What the mailbox before and after a call shows of a moment in between at which the lane from a rank
     /// was empty.
     ghost saw_empty: { Self → ℕ → Self → Type 0 };
 
-    /// How it stands in its group.
+    /// How it stands in its group: its rank, the group's size, and its lanes with their capacities.
     ghost wiring: { Self → Wiring };
 
-    /// Sends the mark that ends this round on the lane to another rank. `Full` comes only where that lane
-    /// was full at one moment of this call; the vote comes back and nothing was sent.
+    /// Sends the mark that ends this round on the lane to another rank, which was not sent it before. `Full` comes
+    /// only where that lane was full at one moment of this call; the vote comes back and nothing was sent. What was
+    /// taken stays the same.
     fn send_mark(&mut self, to: RankNo, vote: Vote) -> Result<(), Full<Vote>>
         requires other { IsOther (Self.own self.old) (Self.size self.old) to.0 }
         requires unmarked { flag_at (Self.marks_sent self.old) to.0 ≡ false }
@@ -41,9 +43,9 @@ pub trait Mailbox<B>: Outbox<B> {
         ensures rest { Self.SameRest self.old self.new }
         ensures later { Self.Later self.old self.new };
 
-    /// Takes the next message from another rank. `Closed` comes exactly where this round's mark of that lane
-    /// was taken before, and `Empty` only where the lane was empty at one moment of this call; nothing is
-    /// taken then.
+    /// Takes the next message from another rank. `Closed` comes exactly where this round's mark of that lane was taken
+    /// before, and `Empty` only where the lane was empty at one moment of this call; nothing is taken then. What was
+    /// sent stays the same.
     fn poll(&mut self, from: RankNo) -> Polled<B>
         requires { IsOther (Self.own self.old) (Self.size self.old) from.0 }
         ensures item { OnItem result (λ x. taken self.new ≡ append_at (taken self.old) from.0 (Item x)) }
@@ -75,7 +77,8 @@ pub trait Mailbox<B>: Outbox<B> {
         ensures flag { result ≡ flag_at (marks_taken self.now) from.0 }
         ensures last { result ≡ true → ends_with_mark (list_at (taken self.now) from.0) ≡ true };
 
-    /// Begins the next round.
+    /// Begins the next round, where each other rank was sent this round's mark and it was taken from each. No mark of
+    /// the new round was sent or taken; the messages sent and taken stay the same.
     fn next_round(&mut self)
         requires all_sent { AllSet (Self.own self.old) (Self.size self.old) (Self.marks_sent self.old) }
         requires all_taken { AllSet (Self.own self.old) (Self.size self.old) (marks_taken self.old) }
@@ -88,5 +91,6 @@ pub trait Mailbox<B>: Outbox<B> {
         ensures same_wiring { wiring self.new ≡ wiring self.old }
         ensures later { Self.Later self.old self.new };
 
+    /// Where `SameRest` holds, what was taken, its marks and the wiring are the same.
     ghost rest_keeps: { (p q : Self) → Self.SameRest p q → (taken q ≡ taken p) × (marks_taken q ≡ marks_taken p) × (wiring q ≡ wiring p) };
 }

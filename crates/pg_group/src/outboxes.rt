@@ -1,3 +1,4 @@
+//! Where a rank puts the messages that it sends.
 ghost use Rattle.std.specs.Prelude.{◌≡◌, ℕ, Bool, false, List, OnOk, OnErr, IfErr};
 ghost use Rattle.pg_group.specs.declared.messages.Body.{Body};
 ghost use Rattle.pg_group.specs.declared.messages.Body.TheVariants.{Item};
@@ -20,18 +21,19 @@ pub trait Outbox<B> {
     /// Whether the mark of this round was sent to each rank, by rank.
     ghost marks_sent: { Self → List Bool };
 
-    /// What the outbox before and after a call tells of a moment in between at which the lane to a rank was
+    /// What the outbox before and after a call shows of a moment in between at which the lane to a rank was
     /// full.
     ghost saw_full: { Self → ℕ → Self → Type 0 };
 
     /// All else that the outbox keeps is the same.
     ghost SameRest: { Self → Self → Type 0 };
 
-    /// What the outbox may have become by calls on it: no less was sent. A kind of lane may say more.
+    /// What the outbox may have become by calls on it. A port says that on no lane less was sent or taken.
     ghost Later: { Self → Self → Type 0 };
 
-    /// Sends an item to another rank. `Full` comes only where the lane to that rank was full at one moment
-    /// of this call; the item comes back and nothing was sent.
+    /// Sends an item to another rank, which was not sent this round's mark before. `Full` comes only where the lane to
+    /// that rank was full at one moment of this call; the item comes back and nothing was sent. No other list grows,
+    /// and the marks stay the same.
     fn send(&mut self, to: RankNo, item: B) -> Result<(), Full<B>>
         requires other { IsOther (own self.old) (size self.old) to.0 }
         requires unmarked { flag_at (marks_sent self.old) to.0 ≡ false }
@@ -45,11 +47,15 @@ pub trait Outbox<B> {
         ensures rest { SameRest self.old self.new }
         ensures later { Later self.old self.new };
 
+    /// An outbox may stay as it is.
     ghost later_same: { (o : Self) → Later o o };
 
+    /// What it becomes by calls, one after another, it becomes by all of them.
     ghost later_on: { (o p q : Self) → Later o p → Later p q → Later o q };
 
+    /// The rest of an outbox is the same as itself.
     ghost same_rest_refl: { (o : Self) → SameRest o o };
 
+    /// The rest stays the same over two steps where it does over each.
     ghost same_rest_trans: { (o p q : Self) → SameRest o p → SameRest p q → SameRest o q };
 }

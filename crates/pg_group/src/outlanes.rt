@@ -1,3 +1,4 @@
+//! A lane to another rank, which a port puts bodies into.
 ghost use Rattle.std.specs.Prelude.{◌≡◌, true, ◌%◌, ◌^◌, length};
 ghost use Rattle.pg_group.specs.Envelopes.{bodies, IsNumbered};
 ghost use Rattle.pg_group.specs.Rounds.{ends_with_mark};
@@ -26,19 +27,26 @@ pub trait Posts<B> {
     ghost use Rattle.pg_group.specs.Rounds.{is_mark};
     ghost use Rattle.atomic_table.specs.Seated.{TableId};
 
+    /// The bodies sent, oldest first.
     ghost posted: { Self → List (Body B) };
 
+    /// Whether this round's mark was sent.
     ghost mark_posted: { Self → Bool };
 
+    /// Which lane it is.
     ghost lane: { Self → TableId };
 
+    /// How many bodies it holds at most.
     ghost capacity: { Self → ℕ };
 
+    /// What the lane before and after a call shows of a moment in between at which it was full.
     ghost saw_full: { Self → Self → Type 0 };
 
+    /// What it may have become by calls on it.
     ghost Later: { Self → Self → Type 0 };
 
-    /// Sends a body, unless the lane is full.
+    /// Sends a body, and answers whether it was sent. `false` comes only where the lane was full at one moment of this
+    /// call; nothing was sent then.
     fn post(&mut self, body: Body<B>) -> bool
         requires { mark_posted self.old ≡ false }
         ensures sends { MatchBool result (posted self.new ≡ posted self.old ++ body ∷ []) (posted self.new ≡ posted self.old) }

@@ -1,3 +1,4 @@
+//! Rank programs: what the program of one rank does in each round, and what it promises of a whole run.
 ghost use Rattle.std.specs.Prelude.{◌≡◌, ℕ, ◌+◌, ◌-◌, ◌<◌, Bool, true, false, Option, Some, None, List, [], length, replicate, slice_get};
 ghost use Rattle.pg_group.specs.declared.messages.Body.{Body};
 ghost use Rattle.pg_group.specs.declared.messages.Body.TheVariants.{Item, Mark};
@@ -28,8 +29,8 @@ pub enum Next {
     Stop,
 }
 
-/// A program of one rank of a group, which runs in supersteps. In each round it handles what the other ranks
-/// send and works until it is idle; then it votes, and the round ends once every rank's vote is known.
+/// A program of one rank of a group, which runs in supersteps, the rounds. In each round it handles what the other
+/// ranks send and works until it is idle; then it votes, and the round ends once every rank's vote is known.
 ///
 /// `Keeps start handled sent now` is what a program promises of a whole run: from its opening state, the
 /// bodies handled by sender and the bodies sent by receiver, to its present state. Each call keeps it. It
@@ -78,7 +79,8 @@ pub trait Program: Send {
     /// No item is left in this round.
     ghost NothingLeft: { Self → Type 0 };
 
-    /// The rank. What a new program shows is said here.
+    /// The program's rank, below the number of ranks. The other clauses say what a new program shows: it is in round 0,
+    /// has no vote, isn't idle and hasn't ended.
     fn rank(&self) -> RankNo
         ensures rank { result.0 ≡ own self.now }
         ensures within { own self.now < size self.now }
@@ -92,7 +94,8 @@ pub trait Program: Send {
     fn ranks(&self) -> Ranks
         ensures { result ≡ size self.now };
 
-    /// Takes one message from another rank, also after the program has ended. Sends nothing.
+    /// Takes one item from another rank, also after the program has ended. Sends nothing; the round, the vote and
+    /// whether it is idle or has ended stay the same.
     fn handle(&mut self, from: RankNo, body: Self::Body)
         requires { IsOther (own self.old) (size self.old) from.0 }
         ensures kept { (start : Self) (handled sent : List (List (Body Self.Body))) → Keeps start handled sent self.old
@@ -105,7 +108,9 @@ pub trait Program: Send {
         ensures same_idle { idle self.new ≡ idle self.old }
         ensures same_ended { ended self.new ≡ ended self.old };
 
-    /// Does one item, which sends at most one message; or none, where none is left or the lane was full.
+    /// Does one item, which sends at most one message, before the vote of this round is cast. `Idle` says that no item
+    /// is left, and `Blocked` comes only where the lane to that rank was full at one moment of this call; nothing is
+    /// sent then. The outbox sends no mark.
     fn work<O: Outbox<Self::Body>>(&mut self, out: &mut O) -> Worked
         requires uncast { cast self.old ≡ None }
         requires own { O.own out.old ≡ own self.old }
@@ -136,7 +141,8 @@ pub trait Program: Send {
         ensures out_rest { O.SameRest out.old out.new }
         ensures out_later { O.Later out.old out.new };
 
-    /// Ends the work of this round. The vote counts as sent to every other rank from here on.
+    /// The vote of this round, which ends its work; it is cast once a round, when no item is left. It counts as sent to
+    /// every other rank from here on.
     fn vote(&mut self) -> Vote
         requires idle { idle self.old ≡ true }
         requires uncast { cast self.old ≡ None }
@@ -150,7 +156,8 @@ pub trait Program: Send {
         ensures same_idle { idle self.new ≡ idle self.old }
         ensures same_ended { ended self.new ≡ ended self.old };
 
-    /// Ends the round with the votes of all ranks, by rank.
+    /// Ends the round with the votes of all ranks, by rank, the own one among them. `Stop` says that the program has
+    /// ended; with `Again` the next round begins, without a vote.
     fn round_end(&mut self, votes: &[Vote]) -> Next
         requires running { ended self.old ≡ false }
         requires each { length votes.now ≡ size self.old }
@@ -169,5 +176,6 @@ pub trait Program: Send {
 
 /// A program whose votes leave the numbers `c` and `d` at 0, so that two such programs fit one vote.
 pub trait Narrow: Program {
+    /// Each of its votes has 0 in `c` and `d`.
     ghost narrow: { (vote : Vote) → Self.IsVote vote → (vote.c ≡ 0) × (vote.d ≡ 0) };
 }

@@ -1,3 +1,4 @@
+//! A small rank program: each rank sends its number to all others, and counts what it gets.
 ghost use Rattle.std.specs.Prelude.{◌≡◌, ◌⊎◌, ℕ, ◌+◌, ◌<◌, ◌≤◌, ◌↔◌, true, Option, None, IfSome};
 ghost use Rattle.pg_base.specs.declared.TheConstants.{MAX_RANKS};
 ghost use Rattle.pg_group.specs.declared.messages.Vote.{Vote};
@@ -6,8 +7,9 @@ ghost use Rattle.pg_group.specs.Ranked.{IsOther};
 use crate::{Narrow, Next, Outbox, Program, Vote, Worked};
 use pg_base::{RankNo, Ranks};
 
-/// A small program that calls the roll: in each round it sends its rank's number once to every other rank,
-/// and it counts what it gets. It votes zeros, and stops with its last round.
+/// A small program that calls the roll: in each round it sends its rank's number once to every other rank, and it
+/// counts the messages that it gets. It votes zeros, and stops with its last round. Tests run it, and it is a first
+/// example of a program.
 #[derive(Clone, Copy, Debug, PartialEq, Eq)]
 pub struct Roll {
     rank: RankNo,
@@ -35,7 +37,7 @@ const ZEROS: Vote = Vote {
 impl Roll {
     ghost use Rattle.pg_group.specs.Rolls.{IsNewRoll, SentToAll};
 
-    /// The roll of one rank of a group, for this many rounds.
+    /// The roll of one rank of a group, for this many rounds, at least 1.
     pub fn new(rank: RankNo, ranks: Ranks, rounds: u32) -> Roll
         requires within { rank.0 < ranks }
         requires at_least_one { 1 ≤ rounds }

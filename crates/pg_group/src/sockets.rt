@@ -1,3 +1,4 @@
+//! The port of a rank: its lanes to and from all other ranks.
 ghost use Rattle.std.specs.Prelude.{◌≡◌, ◌+◌, ◌<◌, ◌⊎◌, length};
 ghost use Rattle.pg_group.specs.Ranked.{place_of};
 
@@ -7,8 +8,8 @@ use crate::{Body, Envelope, Mailbox, Outbox, Polled, Vote};
 use pg_base::RankNo;
 use pg_lane::{Full, InEnd, LaneKind, OutEnd};
 
-/// The port of one rank: a lane to and a lane from each other rank of its group, ascending. It has no lane
-/// to itself.
+/// The port of one rank: a lane to and a lane from each other rank of its group, ascending by rank. It has no lane to
+/// itself. Over `RingLanes` no call on it waits or allocates.
 #[derive(Drop)]
 pub struct Port<B: Copy + Send, K: LaneKind<Envelope<B>>> {
     pub(crate) rank: RankNo,

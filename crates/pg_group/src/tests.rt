@@ -1,3 +1,4 @@
+//! Groups of ranks as they are made, a round of two ranks, and a round of rolls.
 ghost use Rattle.std.specs.Prelude.{◌≡◌, ◌+◌, false, None, Some, IfSome};
 ghost use Rattle.pg_group.specs.Ranked.{flag_at};
 ghost use Rattle.pg_group.specs.Supersteps.{AreUnmarked};
