@@ -1,4 +1,4 @@
-//! How often a program works.
+//! How often a turn lets a program work.
 ghost use Rattle.std.specs.Prelude.{◌≡◌, ◌≤◌, ◌<◌, IfOk, length};
 ghost use Rattle.pg_group.specs.Entries.{Each};
 

@@ -1,3 +1,4 @@
+//! How the machines of a group are cut into groups of neighbours, one for each thread.
 ghost use Rattle.std.specs.Prelude.{◌≡◌, ◌≤◌, min, max};
 ghost use Rattle.pg_run.specs.Blocks.{group_start};
 

@@ -1,3 +1,4 @@
+//! What can be driven: it has turns, and ends.
 ghost use Rattle.std.specs.Prelude.{◌≡◌, Bool};
 
 use crate::runners::Runner;

@@ -1,3 +1,4 @@
+//! Drives machines turn by turn on the caller's thread.
 ghost use Rattle.std.specs.Prelude.{◌≡◌, ◌↔◌, ◌&&◌, ◌||◌, ℕ, true};
 ghost use Rattle.pg_group.specs.Entries.{Each};
 ghost use Rattle.pg_run.specs.Calls.{TurnsOne};
@@ -13,8 +14,9 @@ use pg_base::Gate;
 use pg_group::{Mailbox, Program};
 use std::sync::Wait;
 
-/// Gives each machine a turn in order, again and again, until all have ended. A machine passes the gate with
-/// its rank and the number of its next turn before each turn, also where it has ended and the turn changes nothing.
+/// Gives each machine a turn in order, again and again, until all have ended, all on the caller's thread. A machine
+/// passes the gate with its rank and the number of its next turn before each turn, also where it has ended and the turn
+/// changes nothing. Where the machines don't end, neither does the call.
 pub fn drive<W: Wait, P: Program, M: Mailbox<P::Body>, G: Gate>(
     token: &W,
     machines: &mut [Runner<P, M>],
@@ -83,7 +85,7 @@ fn turn_one<D: Driven, F: Fn(&mut D) -> Turn>(step: &F, machine: &mut D) -> Turn
     step(machine)
 }
 
-// What two turns came to together.
+// What two turns did, taken together.
 fn both(a: Turn, b: Turn) -> Turn
     ensures done { is_done result ≡ (is_done a && is_done b) }
     ensures moved { has_moved result ≡ (has_moved a || has_moved b) }

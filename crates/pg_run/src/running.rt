@@ -1,3 +1,4 @@
+//! Runs a group on threads until all its programs have ended.
 ghost use Rattle.std.specs.Prelude.{◌≡◌, ◌≤◌, ◌+◌, ◌-◌, ◌*◌, ℕ, [], ◌++◌, true, length, map, slice_get, Some};
 ghost use Rattle.std.specs.Vec.{vec_capacity};
 ghost use Rattle.pg_group.specs.Entries.{Each};
@@ -21,7 +22,8 @@ use pg_lane::LaneKind;
 use std::sync::Wait;
 use std::thread::Threads;
 
-/// Runs a group until all its programs have ended. Takes no memory.
+/// Runs a group until all its programs have ended, and answers their final states and the settled lanes. Where they
+/// don't end, neither does the call. Allocates nothing itself.
 ///
 /// Every message that was sent was taken, in its sender's order, all ranks have ended as many rounds, and each
 /// program has kept what it promises from its opening state, over just the messages that it took and sent.

@@ -1,4 +1,4 @@
-//! Runs on threads.
+//! Runs of groups on one thread and on several.
 ghost use Rattle.std.specs.Prelude.{◌≤◌};
 
 use crate::tests::rolls;

@@ -1,3 +1,4 @@
+//! Drives machines in groups, each group on a thread of its own.
 ghost use Rattle.std.specs.Prelude.{◌≡◌, ◌↔◌, ◌≤◌, ◌<◌, ◌+◌, ℕ, true, length};
 ghost use Rattle.std.specs.Thread.{IsSync, IsSend};
 ghost use Rattle.pg_group.specs.Entries.{Each};
