@@ -1,5 +1,5 @@
--- A book of messages: for each sender and receiver the list of the bodies sent and the list of those taken. What holds of such lists
--- is said without lanes, so that it can be said of a part of the messages too.
+-- A book of messages: for each sender and receiver the list of the bodies sent and the list of those taken. What holds
+-- of such lists is said without lanes, so that it can be said of a part of the messages too.
 -- Source: the messages of a superstep, Valiant, A bridging model for parallel computation (CACM 33(8), 1990).
 use Rattle.std.specs.Prelude.{◌≡◌, ◌≤◌, ◌<◌, ℕ, true, List, [], length}
 use Rattle.pg_group.specs.declared.messages.Body.{Body}
@@ -20,8 +20,8 @@ module _ {B : Type 0} where
   abbrev pub IsWhole : ℕ → PairLists B → PairLists B → Type 0
   IsWhole ranks sent taken = EachPair ranks (λ sender receiver. taken sender receiver ≡ sent sender receiver)
 
-  -- As many marks for each sender and receiver, at least one; a mark ends each list; and a sender's marks carry the same votes to all
-  -- receivers.
+  -- As many marks for each sender and receiver, at least one; a mark ends each list; and a sender's marks carry the
+  -- same votes to all receivers.
   pub record IsMarked (ranks : ℕ) (sent : PairLists B) : Type 0 where
     pub rounds : ℕ
     pub some_round : 1 ≤ rounds
@@ -30,8 +30,8 @@ module _ {B : Type 0} where
     pub same_votes : EachPair ranks (λ sender receiver. (other : ℕ) → IsOther sender ranks other → votes_of (sent sender receiver) ≡ votes_of (sent sender other))
 
 module _ {P B : Type 0} (p : ProgramGhosts P B) where
-  -- The program of this rank keeps its promise from its opening state over the lists: it has handled the bodies taken from each
-  -- rank and sent the bodies sent to each.
+  -- The program of this rank keeps its promise from its opening state over the lists: it has handled the bodies taken
+  -- from each rank and sent the bodies sent to each.
   pub record KeepsOver (ranks rank : ℕ) (sent taken : PairLists B) (start now : P) : Type 0 where
     pub own : p.own now ≡ rank
     pub size : p.size now ≡ ranks

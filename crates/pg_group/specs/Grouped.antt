@@ -3,8 +3,8 @@ use Rattle.std.specs.Prelude.{◌≡◌, ◌≢◌, ℕ, ◌+◌, List, length, 
 use Rattle.pg_group.specs.Entries.{Each}
 use Rattle.pg_group.specs.Ranked.{place_of, Wiring}
 
--- The ports of one group, in order: each has its rank, the group's size, and one lane to and one lane from each other rank.
--- The lane of r to s is the lane of s from r.
+-- The ports of one group, in order: each has its rank, the group's size, and one lane to and one lane from each other
+-- rank. The lane of r to s is the lane of s from r.
 pub record AreOneGroup (ports : List Wiring) : Type 0 where
   pub ranks : Each (λ rank w. w.own ≡ rank) ports
   pub sizes : Each (λ rank w. w.size ≡ length ports) ports

@@ -40,8 +40,8 @@ abbrev pub all_clear : List Bool → List Bool
 all_clear [] = []
 all_clear (flag ∷ flags) = false ∷ all_clear flags
 
--- How a port stands in its group: its rank, the group's size, and which lanes lead to and from the other ranks, ascending,
--- with the capacities of those that lead to them.
+-- How a port stands in its group: its rank, the group's size, and which lanes lead to and from the other ranks,
+-- ascending, with the capacities of those that lead to them.
 pub record Wiring : Type 0 where
   pub own : ℕ
   pub size : ℕ

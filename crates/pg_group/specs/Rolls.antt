@@ -77,7 +77,8 @@ items list = count_by (λ body. not (is_mark body)) list
 abbrev pub items_in : List (List (Body ℕ)) → ℕ
 items_in lists = sum_by items lists
 
--- What a roll keeps of a run: it sends its number once in each round to each other rank, and counts the handled items modulo 2^64.
+-- What a roll keeps of a run: it sends its number once in each round to each other rank, and counts the handled items
+-- modulo 2^64.
 pub record HasRolled (start : Roll) (handled sent : List (List (Body ℕ))) (roll : Roll) : Type 0 where
   pub same_rank : roll.rank ≡ start.rank
   pub same_ranks : roll.ranks ≡ start.ranks

@@ -1,4 +1,5 @@
--- What a settled lane shows: the lists of what was sent down it and of what was taken, and how many messages it held at most.
+-- What a settled lane shows: the lists of what was sent down it and of what was taken, and how many messages it held
+-- at most.
 use Rattle.std.specs.Prelude.{ℕ, List}
 use Rattle.pg_lane.specs.declared.settling.Settled.{Settled}
 
