@@ -26,8 +26,8 @@ is_cast (Some vote) = true
 abbrev pub over : ℕ → Bool → ℕ
 over round passed = if passed then round + 1 else round
 
--- One member of a pair: it keeps its promise over its own part of the lists, and it sent nothing after its last mark where it
--- has ended, or has voted in this round. A member that has ended did so in a round that is over.
+-- One member of a pair: it keeps its promise over its own part of the lists, and it sent nothing after its last mark
+-- where it has ended, or has voted in this round. A member that has ended did so in a round that is over.
 pub record MemberKeeps {X : Type 0} (Keeps : List (List (Body X)) → List (List (Body X)) → Type 0) (own size finished round : ℕ) (ended cast : Bool)
     (handled sent : List (List (Body X))) : Type 0 where
   pub keeps : Keeps handled sent

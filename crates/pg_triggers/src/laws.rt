@@ -8,7 +8,7 @@ ghost use Rattle.pg_triggers.specs.Mine.{first_book, second_book};
 use crate::Pair;
 use pg_group::{Narrow, Program, Roll};
 
-/// The round's number alone tells whether a roll stops: all rolls of as many rounds stop by one rule.
+/// The round's number alone decides whether a roll stops: all rolls of as many rounds stop by one rule.
 pub fn rolls_stop_with_their_last_round()
     ensures { (rounds : ℕ) (start : Roll) → start.rounds ≡ rounds → StopsBy ⟦<Roll as Program>⟧ (λ k votes. nat_eq (k + 1) rounds) start }
 {}

@@ -1,3 +1,4 @@
+//! The members of a pair, each of which rests once it has ended.
 ghost use Rattle.std.specs.Prelude.{◌≡◌, ℕ, ◌+◌, ◌<◌, Bool, true, false, Option, Some, None, List, length, slice_get};
 ghost use Rattle.pg_group.specs.declared.messages.Body.{Body};
 ghost use Rattle.pg_group.specs.declared.messages.Body.TheVariants.{Mark};
@@ -17,7 +18,7 @@ const RESTING: Vote = Vote {
 
 /// A member of a pair, which rests once it has ended: its calls do nothing from then on.
 pub trait Member: Narrow {
-    /// Works, unless the member has ended: then none of its items is left.
+    /// Does one item, as `Program::work` does. A member that has ended does and sends nothing, and answers `Idle`.
     fn work_on<O: Outbox<Self::Body>>(&mut self, ended: bool, out: &mut O) -> Worked
         requires ended { ended ≡ Self.ended self.old }
         requires uncast { ended ≡ false → Self.cast self.old ≡ None }
@@ -53,7 +54,8 @@ pub trait Member: Narrow {
         ensures out_rest { O.SameRest out.old out.new }
         ensures out_later { O.Later out.old out.new };
 
-    /// Votes; the vote of a member that has ended has the greatest `a`.
+    /// The member's vote of this round, with 0 in `c` and `d`. That of a member that has ended has the greatest number
+    /// in `a` and 0 in `b`.
     fn vote_on(&mut self, ended: bool) -> Vote
         requires ended { ended ≡ Self.ended self.old }
         requires idle { ended ≡ false → Self.idle self.old ≡ true }
@@ -72,7 +74,8 @@ pub trait Member: Narrow {
         ensures same_idle { Self.idle self.new ≡ Self.idle self.old }
         ensures same_ended { Self.ended self.new ≡ Self.ended self.old };
 
-    /// Ends the round, and answers whether the member has ended.
+    /// Ends the round with the votes of all ranks, by rank, as the member reads them. Answers whether the member has
+    /// ended; one that had ended before stays as it is.
     fn end_on(&mut self, ended: bool, votes: &[Vote]) -> bool
         requires ended { ended ≡ Self.ended self.old }
         requires each { length votes.now ≡ Self.size self.old }

@@ -1,3 +1,4 @@
+//! Where the members of a pair put their items: into the outbox of the pair.
 use crate::Of2;
 use pg_base::RankNo;
 use pg_group::Outbox;

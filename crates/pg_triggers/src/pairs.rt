@@ -1,3 +1,4 @@
+//! A pair of programs, which is one program.
 ghost use Rattle.std.specs.Prelude.{◌≡◌, ℕ, ◌≤◌, ◌&&◌, true, false, None, option_map};
 ghost use Rattle.std.specs.Option.{ForSome};
 ghost use Rattle.pg_triggers.specs.Votes.{IsResting};
@@ -15,6 +16,9 @@ use std::marker::PhantomData;
 /// Two programs over one group. The first member's vote is the pair's `a` and `b`, the second one's its `c`
 /// and `d`. The pair stops where both have stopped; until then a member that stopped rests, and has
 /// 18,446,744,073,709,551,615 and 0 in the pair's votes.
+///
+/// Source: Gregor and Lumsdaine, Lifting sequential graph algorithms for distributed-memory parallel computation
+/// (OOPSLA 2005): several triggers over one process group.
 #[derive(Drop)]
 pub struct Pair<A: Narrow, B: Narrow> {
     first: A,
@@ -36,7 +40,7 @@ pub struct Pair<A: Narrow, B: Narrow> {
 }
 
 impl<A: Narrow, B: Narrow> Pair<A, B> {
-    /// The pair of two new programs of one rank.
+    /// The pair of two new programs of one rank in one group, which is a new program of that rank.
     pub fn new(first: A, second: B) -> Pair<A, B>
         requires first_new { A.IsNew first }
         requires second_new { B.IsNew second }

@@ -1,3 +1,4 @@
+//! What each member of a pair reads of the pair's votes.
 ghost use Rattle.std.specs.Prelude.{◌≡◌, ◌≤◌, length, map, take};
 ghost use Rattle.pg_triggers.specs.Mine.{first_vote, second_vote};
 
