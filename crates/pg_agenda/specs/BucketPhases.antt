@@ -19,7 +19,8 @@ by_bucket buckets heavy Light place = nat_lt (bucket_of buckets place) NONE
 by_bucket buckets heavy Heavy place = is_set heavy place
 by_bucket buckets heavy All place = false
 
--- Ready are in the light phase the places of the agreed bucket, in the heavy phase those that are pending for heavy arcs.
+-- Ready are in the light phase the places of the agreed bucket, in the heavy phase those that are pending for heavy
+-- arcs.
 abbrev pub ready_by : Agreement → List ℕ → List Bool → Places
 ready_by agreed buckets heavy Light place = agreed.light && (bucket_of buckets place == agreed.bucket)
 ready_by agreed buckets heavy Heavy place = not agreed.light && is_set heavy place
@@ -36,7 +37,8 @@ pub record IsLowest (buckets : List ℕ) (bucket : ℕ) : Type 0 where
   pub lowest : (place : ℕ) → bucket ≤ bucket_of buckets place
   pub stands : (place : ℕ) × (bucket_of buckets place ≡ bucket)
 
--- The vote names the least bucket of a place, and in `b` whether a message was sent and whether a place is pending for its heavy arcs.
+-- The vote names the least bucket of a place, and in `b` whether a message was sent and whether a place is pending for
+-- its heavy arcs.
 pub record IsBucketVote (buckets : List ℕ) (heavy : List Bool) (sent : Bool) (vote : Vote) : Type 0 where
   pub lowest : IsLowest buckets vote.a
   pub told : vote.b ≡ (if sent then 1 else 0) + (if is_any heavy then 2 else 0)
@@ -53,7 +55,8 @@ has_sent votes = list_any (λ vote. vote.b % 2 == 1) votes
 abbrev pub has_heavy : List Vote → Bool
 has_heavy votes = list_any (λ vote. vote.b == 2 || vote.b == 3) votes
 
--- While messages are sent, or a place is in the agreed bucket or a lesser one: that bucket's light arcs. Then the heavy arcs. Then the next bucket.
+-- While messages are sent, or a place is in the agreed bucket or a lesser one: that bucket's light arcs. Then the
+-- heavy arcs. Then the next bucket.
 abbrev pub next_agreement : List Vote → Agreement → Agreement
 next_agreement votes agreed =
     let least = least_vote votes in

@@ -1,9 +1,11 @@
--- Doubly linked circular lists of places, each place in at most one. The nodes below `count` are places, the others the heads of lists.
+-- Doubly linked circular lists of places, each place in at most one. The nodes below `count` are places, the others
+-- the heads of lists.
 use Rattle.std.specs.Prelude.{◌≡◌, ◌<◌, ◌≤◌, ℕ, List, slice_index}
 use Rattle.pg_agenda.specs.declared.moves.Moves.{Moves}
 use Rattle.pg_agenda.specs.Moves.{stamp}
 
--- The links lead round in circles. A circle that has a head is the list of those places whose home the head is, last moved first.
+-- The links lead round in circles. A circle that has a head is the list of those places whose home the head is, last
+-- moved first.
 pub record AreLinked (count nodes : ℕ) (next prev home stamp : ℕ → ℕ) (clock : ℕ) : Type 0 where
   pub after : (x : ℕ) → x < nodes → next x < nodes
   pub before : (x : ℕ) → x < nodes → prev x < nodes

@@ -1,3 +1,4 @@
+//! Agendas: which places of a rank are pending, and which of them is relaxed next.
 ghost use Rattle.std.specs.Prelude.{◌≡◌, ◌≢◌, ◌↔◌, ◌⊎◌, ℕ, ◌%◌, ◌<◌, ◌≤◌, Bool, true, false, List, IfNone, IfSome};
 ghost use Rattle.pg_group.specs.declared.messages.Vote.{Vote};
 ghost use Rattle.pg_agenda.specs.declared.shares.Share.{Share};
@@ -8,7 +9,7 @@ use crate::Share;
 use pg_group::Vote;
 
 /// The pending places of a rank. A place is pending for a share of its arcs, and ready where its turn has come by
-/// what the ranks agreed on. The places are numbered from 0.
+/// what the ranks agreed on. The places are numbered from 0. No clause says in which order ready places come.
 pub trait Agenda {
     /// How many places there are.
     ghost count: { Self → ℕ };
@@ -28,7 +29,8 @@ pub trait Agenda {
     /// What it has agreed on by the votes of all ranks: the agenda before, and after.
     ghost HasBegun: { Self → List Vote → Self → Type 0 };
 
-    /// Makes a place pending, with this amount.
+    /// Makes a place pending, by its amount, which is at most 2^60: for all its arcs, or for the light ones. Whether
+    /// it is pending for its heavy arcs, and all other places, stay the same.
     fn mark(&mut self, place: u32, amount: u64)
         requires place { place < count self.old }
         requires amount { amount ≤ 1152921504606846976 }
@@ -38,7 +40,9 @@ pub trait Agenda {
         ensures same_count { count self.new ≡ count self.old }
         ensures same_takes { (share : Share) (w : ℕ) → takes self.new share w ≡ takes self.old share w };
 
-    /// Takes a ready place out of a share. `None` comes exactly where no place is ready.
+    /// Takes a ready place, and answers it with the share of its arcs that is ready; it then isn't pending for that
+    /// share. One that was ready for its light arcs is then pending for its heavy ones. `None` comes exactly where no
+    /// place is ready; what is pending stays the same then.
     fn pop(&mut self) -> Option<(u32, Share)>
         ensures none { IfNone result (AreNone (ready self.old)) }
         ensures still { IfNone result (AreNone (ready self.new)) }
@@ -59,7 +63,9 @@ pub trait Agenda {
     fn takes(&self, share: Share, w: u32) -> bool
         ensures { result ≡ takes self.now share w };
 
-    /// The vote at the end of a round, in which the agenda's owner sent a message or not.
+    /// The vote at the end of a round, where `sent` says whether a message was sent in it. Its `b` is odd exactly
+    /// where one was, and `c` and `d` are 0. The greatest number in `a` and less than 2 in `b` come only where no
+    /// place is pending. What is pending stays the same.
     fn vote(&mut self, sent: bool) -> Vote
         ensures form { IsVote self.old sent result }
         ensures odd { (result.b % 2 ≡ 1) ↔ (sent ≡ true) }
@@ -70,7 +76,7 @@ pub trait Agenda {
         ensures same_count { count self.new ≡ count self.old }
         ensures same_takes { (share : Share) (w : ℕ) → takes self.new share w ≡ takes self.old share w };
 
-    /// Agrees on what is ready from here on, by the votes of all ranks.
+    /// Agrees on what is ready from here on, by the votes of all ranks, by rank. What is pending stays the same.
     fn begin(&mut self, votes: &[Vote])
         ensures begun { HasBegun self.old votes.now self.new }
         ensures rests { AreSame (pending self.old) (pending self.new) }

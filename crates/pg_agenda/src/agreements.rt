@@ -1,3 +1,4 @@
+//! What the ranks agree on by their votes: a bucket and its phase.
 ghost use Rattle.std.specs.Prelude.{◌≡◌, ◌<◌, min};
 ghost use Rattle.std.specs.List.{fold, list_any};
 ghost use Rattle.pg_agenda.specs.Shares.{NONE};
@@ -6,7 +7,8 @@ ghost use Rattle.pg_agenda.specs.BucketPhases.{least_vote, has_sent, has_heavy, 
 use crate::NONE;
 use pg_group::Vote;
 
-/// What all ranks agreed on: a bucket, and whether its light arcs are relaxed or the heavy arcs of those before.
+/// What all ranks agreed on: a bucket, and whether its light arcs are relaxed, or the heavy arcs of all places that are
+/// pending for them.
 #[derive(Clone, Copy, Debug, PartialEq, Eq)]
 pub(crate) struct Agreement {
     pub(crate) bucket: u64,

@@ -1,3 +1,4 @@
+//! Places by their buckets: in lists for the buckets of a window, and in one far list.
 ghost use Rattle.std.specs.Prelude.{◌≡◌, ◌≢◌, ◌⊎◌, ◌+◌, ◌-◌, ◌*◌, ◌<◌, ◌≤◌, ◌^◌, ℕ, true, false, min, length, replicate, slice_set, IfOk, IfNone, IfSome};
 ghost use Rattle.pg_agenda.specs.Shares.{NONE};
 ghost use Rattle.pg_agenda.specs.Moves.{home};
@@ -99,8 +100,9 @@ impl BucketQueue {
         self.far = self.far.with(self.first, place, bucket);
     }
 
-    /// Takes the place that has been in this bucket longest out of it, if there is one in it; the bucket is one of the window.
-    /// Takes constant time. In this order few places come back to a bucket with a lesser amount; that is for speed alone.
+    /// Takes the place that has been in this bucket longest out of it, if there is one in it; the bucket is one of the
+    /// window. Takes constant time. In this order few places come back to a bucket with a lesser amount; that is for
+    /// speed alone.
     pub(crate) fn take(&mut self, bucket: u64) -> Option<u32>
         requires { is_near self.old.first bucket ≡ true }
         ensures none { IfNone result ((place : ℕ) → bucket_of self.old.buckets.items place ≢ bucket) }

@@ -1,3 +1,4 @@
+//! The agenda of delta-stepping: places by buckets of their amounts.
 ghost use Rattle.std.specs.Prelude.{◌≡◌, ◌≢◌, ◌⊎◌, ◌↔◌, ◌+◌, ◌%◌, ◌/◌, ◌<◌, ◌≤◌, ◌^◌, ℕ, Bool, true, false, not, [], length, replicate, slice_set, IfOk, IfNone, IfSome, if◌then◌else◌};
 ghost use Rattle.pg_agenda.specs.Shares.{NONE, AreNone, AreSame};
 ghost use Rattle.pg_agenda.specs.declared.shares.Share.{Share};
@@ -17,13 +18,15 @@ use std::alloc::{AllocError, Global};
 /// The buckets of delta-stepping: a place stands in the bucket `amount / delta`. The light arcs, those of at most
 /// `delta`, are relaxed from the agreed bucket until it stays empty, and then the heavy arcs of all that it held.
 ///
-/// The pending places of 1,024 buckets, the window, stand in a list for each bucket, the others in one far list. `mark`
-/// and `pop` take constant time. `vote` takes a pass over the window's buckets, and one over the far list where the least
-/// bucket may be there and the far place that was known to have it has left it. `begin` takes a pass over the votes. Where
-/// the agreed bucket isn't one of the window, the window moves there, in a pass over its lists and over each place that is
-/// in a bucket; where it moves on to a greater bucket in a run, only the far places are left in one.
+/// The pending places of 1,024 buckets, the window, stand in a list for each bucket, the others in one far list.
+/// `mark` and `pop` take constant time. `vote` takes a pass over the window's buckets, and one over the far list where
+/// the least bucket may be there and the far place that was known to have it has left it. `begin` takes a pass over
+/// the votes. Where the agreed bucket isn't one of the window, the window moves there, in a pass over its lists and
+/// over each place that is in a bucket; where it moves on to a greater bucket in a run, only the far places are left
+/// in one.
 ///
-/// Source: Meyer and Sanders, Delta-stepping: a parallelizable shortest path algorithm (Journal of Algorithms 49, 2003).
+/// Source: Meyer and Sanders, Delta-stepping: a parallelizable shortest path algorithm (Journal of Algorithms 49,
+/// 2003).
 #[derive(Drop)]
 pub struct Buckets {
     // The places that are pending for their light arcs.
@@ -39,8 +42,9 @@ pub struct Buckets {
 }
 
 impl Buckets {
-    /// Places below `count`, none of them pending, in the light phase of bucket 0. Takes all memory that the agenda needs.
-    /// More than 4,294,965,245 places are out of memory too, since the lists' heads are numbered after them.
+    /// Places below `count`, none of them pending, in the light phase of bucket 0. `delta` is the width of a bucket,
+    /// in units of weight, at least 1. Allocates all the memory that the agenda needs. `Err` says that the run is out
+    /// of memory; it comes for more than 4,294,965,245 places too, since the lists' heads are numbered after them.
     pub fn new(alloc: Global, count: u32, delta: u32) -> Result<Buckets, OutOfMemory>
         requires { 1 ≤ delta }
         ensures count { IfOk result (λ agenda. length agenda.light.buckets.items ≡ count) }

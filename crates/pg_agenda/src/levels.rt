@@ -1,3 +1,4 @@
+//! The agenda of breadth-first search: places by levels.
 ghost use Rattle.std.specs.Prelude.{◌≡◌, ◌≢◌, ◌⊎◌, ◌↔◌, ◌+◌, ◌%◌, ◌<◌, ◌≤◌, ℕ, Bool, true, false, [], ◌∷◌, ◌++◌, length, replicate, slice_set, IfOk, IfNone, IfSome, if◌then◌else◌};
 ghost use Rattle.std.specs.Vec.{vec_capacity};
 ghost use Rattle.pg_agenda.specs.Shares.{NONE, AreNone, AreSame, only_all, takes_all};
@@ -10,7 +11,8 @@ use pg_base::OutOfMemory;
 use pg_group::Vote;
 use std::alloc::{AllocError, Global};
 
-/// The distributed queue: the places of this level, which are ready, and those of the next.
+/// The distributed queue: the places of this level, which are ready, and those of the next. `begin` takes a pass over
+/// the places of the next level, each other call but `new` constant time.
 ///
 /// Source: the distributed breadth-first search of the Parallel Boost Graph Library.
 #[derive(Drop)]
@@ -25,7 +27,8 @@ pub struct Levels {
 }
 
 impl Levels {
-    /// Places below `count`, none of them pending. Takes all memory that the agenda needs.
+    /// Places below `count`, none of them pending. Allocates all the memory that the agenda needs. `Err` says that the
+    /// run is out of memory.
     pub fn new(alloc: Global, count: u32) -> Result<Levels, OutOfMemory>
         ensures count { IfOk result (λ levels. length levels.pending.items ≡ count) }
         ensures none { IfOk result (λ levels. (place : ℕ) → is_set levels.pending.items place ≡ false) }

@@ -1,3 +1,4 @@
+//! The moves of places to lists, which contracts see as a history.
 ghost use Rattle.std.specs.Prelude.{◌≡◌, ◌≢◌, ◌+◌, ℕ};
 ghost use Rattle.pg_agenda.specs.Moves.{home, stamp, total};
 

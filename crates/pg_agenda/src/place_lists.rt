@@ -1,3 +1,4 @@
+//! Doubly linked lists of places.
 ghost use Rattle.std.specs.Prelude.{◌≡◌, ◌≢◌, ◌+◌, ◌<◌, ◌≤◌, ◌^◌, ℕ, false, length, IfOk, IfNone, IfSome};
 ghost use Rattle.pg_agenda.specs.Moves.{home, stamp, total};
 ghost use Rattle.pg_agenda.specs.PlaceLists.{AreLinked, link_at, front};
@@ -6,7 +7,7 @@ use crate::moves::Moves;
 use std::alloc::{AllocError, Global};
 
 /// Lists of places, each place in at most one of them, doubly linked through numbers. A list goes by the number of its
-/// head, the heads come after the places. Each call but `new` takes constant time and no memory.
+/// head, the heads come after the places. Each call but `new` takes constant time and allocates nothing.
 #[derive(Drop)]
 pub(crate) struct PlaceLists {
     // For each node the next one, and the one before it. A place in no list leads to itself.
@@ -37,8 +38,8 @@ impl PlaceLists {
         })
     }
 
-    /// The node after this one: after a head the first place of its list, after a place the next one, and the head after
-    /// the last.
+    /// The node after this one: after a head the first place of its list, after a place the next one, and the head
+    /// after the last.
     pub(crate) fn after(&self, node: u32) -> u32
         requires { node < length self.now.next.items }
         ensures { result ≡ link_at self.now.next.items node }

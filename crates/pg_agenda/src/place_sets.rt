@@ -1,3 +1,4 @@
+//! A set of places, in no order.
 ghost use Rattle.std.specs.Prelude.{◌≡◌, ◌<◌, ◌≤◌, [], true, false, not, length, replicate, slice_set, IfOk, IfNone, IfSome};
 ghost use Rattle.std.specs.List.{list_any};
 ghost use Rattle.std.specs.Vec.{vec_capacity};
@@ -5,7 +6,7 @@ ghost use Rattle.pg_agenda.specs.LevelLists.{AreLevels, is_set, is_any};
 
 use std::alloc::{AllocError, Global};
 
-/// A set of places, of which any one is taken. Each call but `new` takes constant time and no memory.
+/// A set of places, of which any one is taken. Each call but `new` takes constant time and allocates nothing.
 #[derive(Drop)]
 pub(crate) struct PlaceSet {
     places: Vec<u32>,
@@ -26,6 +27,7 @@ impl PlaceSet {
         })
     }
 
+    /// Whether no place is in the set.
     pub(crate) fn is_empty(&self) -> bool
         ensures { result ≡ not (is_any self.now.members.items) }
     {
