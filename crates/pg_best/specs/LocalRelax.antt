@@ -30,7 +30,8 @@ pub record Fits (part : Part) (o : Offer) : Type 0 where
   pub at : IsAt part o.place o.to.0
   pub within : IsWithin o.value
 
--- Bounds: each vertex that the label starts has at most its start, and the place of each handled offer that fits at most the offer's value.
+-- Bounds: each vertex that the label starts has at most its start, and the place of each handled offer that fits at
+-- most the offer's value.
 pub record IsBounded (label : Label) (part : Part) (handled : List (List (Body Offer))) (cell : ℕ → Option Value) : Type 0 where
   pub started : (i v class : ℕ) → IsAt part i v → label.start v ≡ Some class → HasAtMost (cell i) (start_value class)
   pub lowered : (from : ℕ) (o : Offer) → IsOther part.rank part.ranks from → IsItemAt handled from o → Fits part o → HasAtMost (cell o.place) o.value
@@ -43,15 +44,16 @@ pub record IsOffered (sent : List (List (Body Offer))) (a : LocalArc) (y : Value
   pub place : offer.place ≡ a.place
   pub most : AtMost offer.value y
 
--- Relaxed arcs: for each arc that isn't due, where its start has a value and the extension is within the limits, an own end has at
--- most the extension, and to another one an offer of at most that was sent.
+-- Relaxed arcs: for each arc that isn't due, where its start has a value and the extension is within the limits, an
+-- own end has at most the extension, and to another one an offer of at most that was sent.
 pub record AreRelaxed (label : Label) (part : Part) (sent : List (List (Body Offer))) (cell : ℕ → Option Value) (due : LocalArc → Bool) : Type 0 where
   pub own : (a : LocalArc) (x : Value) → Contains part.arcs a → due a ≡ false → cell a.at ≡ Some x → IsWithin (extended x (label.add a.weight))
       → a.home ≡ part.rank → HasAtMost (cell a.place) (extended x (label.add a.weight))
   pub other : (a : LocalArc) (x : Value) → Contains part.arcs a → due a ≡ false → cell a.at ≡ Some x → IsWithin (extended x (label.add a.weight))
       → a.home ≢ part.rank → IsOffered sent a (extended x (label.add a.weight))
 
--- Support: where the handled offers below a bound belong to walks, so do the values below it and the sent offers up to it.
+-- Support: where the handled offers below a bound belong to walks, so do the values below it and the sent offers up to
+-- it.
 pub record IsSupported (label : Label) (part : Part) (handled sent : List (List (Body Offer))) (cell : ℕ → Option Value) : Type 0 where
   pub cells : (arcs : List Arc) (b : ℕ) → Include arcs part
       → ((from : ℕ) (o : Offer) → IsOther part.rank part.ranks from → IsItemAt handled from o → Fits part o → measure o.value < b → Belongs label arcs o.to.0 o.value)

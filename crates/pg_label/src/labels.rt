@@ -1,8 +1,9 @@
+//! Labels: where walks start, and what their arcs cost.
 ghost use Rattle.std.specs.Prelude.{◌≡◌, ◌≤◌, ℕ, Option, Some, None, if◌then◌else◌, ◌==◌};
 
 use pg_base::Vertex;
 
-/// In which class a vertex starts, if it does, and what an arc of a weight costs.
+/// What relaxation computes: in which class a vertex starts, if it does, and what an arc of a weight costs.
 pub trait Label {
     /// The class in which a vertex starts.
     ghost start: { Self → ℕ → Option ℕ };
@@ -10,11 +11,11 @@ pub trait Label {
     /// The cost of an arc, by its weight.
     ghost add: { Self → ℕ → ℕ };
 
-    /// The class in which `v` starts, if it does.
+    /// The class in which `v` starts. `None` says that no walk starts there.
     fn start(&self, v: Vertex) -> Option<u32>
         ensures { result ≡ start self.now v.0 };
 
-    /// What an arc of weight `w` costs.
+    /// What an arc of weight `w` costs, at most 4,294,967,295.
     fn add(&self, w: u32) -> u64
         ensures value { result ≡ add self.now w }
         ensures at_most { add self.now w ≤ 4294967295 };
@@ -23,19 +24,21 @@ pub trait Label {
     ghost bounded: { (l : Self) (w : ℕ) → w ≤ 4294967295 → add l w ≤ 4294967295 };
 }
 
-/// Each arc costs 1, and the source alone starts.
+/// Each arc costs 1, and the source alone starts, in class 0: for breadth-first search.
 #[derive(Clone, Copy, Debug, PartialEq, Eq)]
 pub struct Hops {
+    /// The number of the source, from 1. A number that no vertex has starts nothing.
     pub source: u32,
 }
 
-/// Each arc costs its weight, and the source alone starts.
+/// Each arc costs its weight, and the source alone starts, in class 0: for least weights.
 #[derive(Clone, Copy, Debug, PartialEq, Eq)]
 pub struct Weight {
+    /// The number of the source, from 1. A number that no vertex has starts nothing.
     pub source: u32,
 }
 
-/// Each arc costs 1, and each vertex starts in a class of its own.
+/// Each arc costs 1, and each vertex starts in a class of its own, its number: for components.
 #[derive(Clone, Copy, Debug, PartialEq, Eq)]
 pub struct Root;
 

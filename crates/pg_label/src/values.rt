@@ -1,3 +1,4 @@
+//! Values, their order, and how an arc extends them.
 ghost use Rattle.std.specs.Prelude.{◌≡◌, ◌↔◌, ◌≤◌, IsSome, IfSome, true, false};
 ghost use Rattle.std.proofs.Common.{rules};
 ghost use Rattle.std.specs.Cmp.{partial_order_from_own_ties};
@@ -8,23 +9,26 @@ ghost use Rattle.pg_label.specs.Values.{AtMost, Below, IsWithin, extended};
 
 use std::cmp::Ordering;
 
-/// The greatest amount of a value.
+/// The greatest amount of a value, 2^60.
 pub const MAX_AMOUNT: u64 = 1_152_921_504_606_846_976;
 
-/// The greatest number of hops of a value.
+/// The greatest number of hops of a value, which is the greatest number of vertices of a graph.
 pub const MAX_HOPS: u32 = 1_048_576;
 
 /// What a walk gives its end: the class of its start, the sum of its costs, and the number of its arcs. Values are
 /// ordered by class, then amount, then hops. The fields stand so that a value takes 16 bytes.
 #[derive(Clone, Copy, Debug, PartialEq, Eq)]
 pub struct Value {
+    /// The class in which the walk's first vertex starts.
     pub class: u32,
+    /// How many arcs the walk has.
     pub hops: u32,
+    /// What its arcs cost together.
     pub amount: u64,
 }
 
 impl Value {
-    /// Whether this value comes before the other one.
+    /// Whether this value comes before the other one, by class, then amount, then hops.
     pub const fn is_below(self, other: Value) -> bool
         ensures below { result ≡ true → Below self other }
         ensures most { result ≡ false → AtMost other self }
@@ -66,8 +70,9 @@ impl PartialOrd for Value {
     }
 }
 
-/// The value of a walk that goes on by an arc of cost `a`: the amount is larger by `a`, and there is one hop more.
-/// `None` comes exactly where the amount would be above [`MAX_AMOUNT`] or the hops above [`MAX_HOPS`].
+/// The value of a walk that goes on by an arc of cost `a`: the class is the same, the amount is larger by `a`, and
+/// there is one hop more. `None` comes exactly where the amount would be above [`MAX_AMOUNT`] or the hops above
+/// [`MAX_HOPS`].
 pub fn extend(x: Value, a: u64) -> Option<Value>
     requires within { IsWithin x }
     requires cost { a ≤ 4294967295 }
