@@ -1,4 +1,4 @@
--- Files by name, where a source tells them.
+-- Files by name, where a source shows them.
 use Rattle.std.specs.Prelude.{◌≡◌, ℕ, Bool, true, false, Option, Some, None, List, [], ◌∷◌, ⊤}
 use Rattle.std.specs.Str.{bytes_eq}
 
@@ -16,12 +16,12 @@ abbrev pub contents_of : List ℕ → List NamedBytes → Option (List ℕ)
 contents_of name [] = None
 contents_of name (f ∷ files) = contents_if (bytes_eq f.name name) f.bytes (contents_of name files)
 
--- The files are told, and none has this name.
+-- The files are known, and none has this name.
 abbrev pub IsMissing : List ℕ → Option (List NamedBytes) → Type 0
 IsMissing name None = ⊥
 IsMissing name (Some files) = contents_of name files ≡ None
 
--- Where the files are told, the bytes left are the name's contents.
+-- Where the files are known, so are the bytes left: they are the name's contents.
 abbrev pub BeginsAt : List ℕ → Option (List NamedBytes) → Option (List ℕ) → Type 0
 BeginsAt name None left = ⊤
 BeginsAt name (Some files) None = ⊥

@@ -2,6 +2,6 @@
 use Rattle.std.specs.Prelude.{ℕ, Option, List, take}
 use Rattle.std.specs.Io.KnownBytes.{Appends}
 
--- A text that is told grew by a front of these bytes.
+-- The text, where it is known, grew by a front of these bytes.
 abbrev pub AppendsFront : Option (List ℕ) → Option (List ℕ) → List ℕ → Type 0
 AppendsFront old new bytes = (n : ℕ) × Appends old new (take n bytes)

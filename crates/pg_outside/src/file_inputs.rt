@@ -1,3 +1,4 @@
+//! The system's files as a source of named bytes.
 ghost use Rattle.std.specs.Prelude.{◌≡◌, ◌≤◌, length, false, None, is_ok, is_some, not, OnOk, OnErr, IfOk, IsErr, IsTrue, ◌⊎◌};
 ghost use Rattle.std.specs.Io.KnownBytes.{ReadConsumes};
 ghost use Rattle.pg_outside.specs.Counts.{counted_if};
@@ -10,8 +11,8 @@ use std::fs;
 use std::io::Read;
 use std::rt::Files;
 
-/// The files of the system, whose contents are not told. The bytes left of the file that was begun last are
-/// told only where the runtime's files tell them: those of the system tell none.
+/// The files that a runtime reaches. Contracts don't see their contents, and see the bytes left of the file that was
+/// begun last only where the runtime's files show them; those of the system don't.
 #[derive(Drop)]
 pub struct FileInputs<R: Files> {
     rt: R,

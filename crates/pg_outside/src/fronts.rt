@@ -1,3 +1,4 @@
+//! Which front of its piece a call appends to a text of fixed room.
 ghost use Rattle.std.specs.Prelude.{◌≡◌, length};
 ghost use Rattle.pg_outside.specs.Fronts.{planned_front, front_of};
 

@@ -1,3 +1,4 @@
+//! Sources of named bytes.
 ghost use Rattle.std.specs.Prelude.{◌≡◌, ℕ, ◌≤◌, Bool, IsTrue, Option, List, length, is_ok, OnOk, OnErr, IfOk, IsErr, ◌⊎◌};
 ghost use Rattle.std.specs.Io.KnownBytes.{ReadConsumes};
 ghost use Rattle.pg_outside.specs.Faults.{Rose};
@@ -10,17 +11,17 @@ pub trait Inputs {
     /// How many faults were met so far.
     ghost faults: { Self → ℕ };
 
-    /// The files, where this source tells them.
+    /// The files by name, where this source shows them.
     ghost files: { Self → Option (List NamedBytes) };
 
     /// Whether a name was begun and nothing failed since in `begin`.
     ghost begun: { Self → Bool };
 
-    /// The bytes left of the name that was begun last, where this source tells them.
+    /// The bytes left of the name that was begun last, where this source shows them.
     ghost left: { Self → Option (List ℕ) };
 
     /// Turns to the start of the contents of `name`. After an `Err` no name is begun. An `Err` comes only
-    /// where a fault was counted or the name is missing; a missing name counts no fault.
+    /// where a fault was counted or the name is missing; a missing name counts no fault. The files stay the same.
     fn begin(&mut self, name: &str) -> Result<(), Failed>
         ensures later { faults self.old ≤ faults self.new }
         ensures cause { OnErr result

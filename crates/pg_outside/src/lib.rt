@@ -1,6 +1,6 @@
 //! What the program reads from and writes to: sources of named bytes and sinks of text, each with a count
-//! of its faults. Two of them stand in memory and tell what they hold; two adapt the system's files and
-//! streams.
+//! of its faults. Two of them lie in memory and show what they hold; two adapt the system's files and
+//! streams, and show nothing of what these hold.
 #![tactic(auto)]
 
 mod faults;

@@ -1,3 +1,4 @@
+//! A text in memory, as a sink whose calls can be made to fail.
 ghost use Rattle.std.specs.Prelude.{◌≡◌, ◌+◌, ◌≤◌, ◌++◌, length, vec_len, vec_capacity};
 
 use crate::faults::fault;
@@ -22,9 +23,9 @@ impl MemorySink {
     ghost use Rattle.std.specs.Prelude.{[], IfOk};
     ghost use Rattle.pg_outside.specs.MemorySink.{text_of, room_of, fails_of, call_of, faults_of};
 
-    /// A sink that takes `room` bytes in all, whose memory is taken here. Calls of `write_all` are numbered
-    /// from 1. For a pair (k, j) of `fails`, call k appends the first j bytes of its piece, or all if there
-    /// are fewer, and fails; of several pairs for one call the first counts.
+    /// A sink that takes `room` bytes in all, whose memory is allocated here. `Err` says that the run is out of
+    /// memory. Calls of `write_all` are numbered from 1. For a pair (k, j) of `fails`, call k appends the first j
+    /// bytes of its piece, or all if there are fewer, and fails; of several pairs for one call the first counts.
     pub fn new(
         alloc: Global,
         room: usize,
@@ -68,7 +69,7 @@ impl Sink for MemorySink {
 
     ghost text = { λ sink. Some sink.text.items };
 
-    /// Appends the front that `next_front` gives, and fails where it says so. Takes no memory.
+    /// Appends the front that `next_front` gives, and fails where it says so. Allocates nothing.
     fn write_all(&mut self, bytes: &[u8]) -> Result<(), Failed>
         ensures later { faults_of self.old ≤ faults_of self.new }
         ensures cause { OnErr result (Rose (faults_of self.old) (faults_of self.new)) }

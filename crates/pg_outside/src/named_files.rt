@@ -1,3 +1,4 @@
+//! Files that are held as pairs of a name and its bytes.
 ghost use Rattle.std.specs.Prelude.{◌≡◌, ◌++◌, ◌-◌, ◌<◌, ◌≤◌, None, Some, length, drop, take, min, IfSome, IfNone};
 ghost use Rattle.pg_outside.specs.Files.{contents_of};
 ghost use Rattle.pg_outside.specs.NamedFiles.{named_files, bytes_at};

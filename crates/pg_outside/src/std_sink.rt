@@ -1,3 +1,4 @@
+//! Standard output and standard error as sinks.
 ghost use Rattle.std.specs.Prelude.{◌≡◌, ◌≤◌, is_ok, not, OnOk, OnErr};
 ghost use Rattle.std.specs.Io.KnownBytes.{Appends, Keeps};
 ghost use Rattle.pg_outside.specs.Counts.{counted_if};
@@ -8,8 +9,8 @@ use crate::faults::fault;
 use crate::{Failed, Sink};
 use std::io::{Stderr, Stdout, Write};
 
-/// A stream of the system, whose text is told only where the stream tells it: standard output and standard
-/// error tell none. Each piece is handed on at once, by one system call where the system takes it whole.
+/// A stream of the system. Contracts see its text only where the stream shows it, which standard output and standard
+/// error don't. Each piece is handed on at once, by one system call where the system takes it whole.
 #[derive(Drop)]
 pub struct StdSink<W> {
     pub(crate) stream: W,

@@ -1,3 +1,4 @@
+//! Sources and sinks in memory, and over the system's files and streams.
 use crate::{Failed, FileInputs, Inputs, MemoryInputs, MemorySink, Sink, StdSink};
 use std::alloc::{AllocError, Global};
 use std::test::Fail;

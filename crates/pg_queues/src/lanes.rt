@@ -8,7 +8,8 @@ use std::sync::Wait;
 use std::thread;
 use std::thread::Threads;
 
-/// Sends the numbers below `messages` from one thread to another. Answers how many came in order.
+/// Sends the numbers below `messages` from one thread to another, through a queue that holds at most `capacity` of
+/// them. Answers how many came in order. `Err` says that the run is out of memory.
 pub fn cross<R: Threads + Wait + Sync>(
     rt: &R,
     alloc: Global,
@@ -27,7 +28,8 @@ pub fn cross<R: Threads + Wait + Sync>(
     Ok(in_order)
 }
 
-/// Fills a queue and empties it in turn on this thread, until `messages` came. Answers how many came in order.
+/// Fills a queue of this capacity and empties it in turn on this thread, until at least `messages` came. Answers how
+/// many came in order. `Err` says that the run is out of memory.
 pub fn turn<R: Wait>(
     rt: &R,
     alloc: Global,
