@@ -30,6 +30,7 @@ pub trait Column {
 
 /// Writes the answer of each vertex in a line of its own, `-` where there is none, each line by one call. After
 /// an `Err`, which comes only where the sink's count of faults rose, a front of this text was written.
+/// Source: docs/FORMAT.md, the texts of answers.
 pub fn print_column<S: Sink, C: Column>(out: &mut S, column: &C) -> Result<(), Failed>
     ensures ok { OnOk result (Appends (S.text out.old) (S.text out.new) (column_text (C.answers column.now))) }
     ensures err { OnErr result (AppendsFront (S.text out.old) (S.text out.new) (column_text (C.answers column.now))) }

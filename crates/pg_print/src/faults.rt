@@ -19,11 +19,11 @@ pub enum Fault {
     Parts { line: u64, kind: PartsKind },
     /// The source is no vertex of the graph.
     Source { source: u32 },
-    /// The file is missing, or a read failed.
+    /// A file is missing, or a read of one failed.
     Read,
     /// A write failed.
     Write,
-    /// Want of memory. No clause says when it comes.
+    /// The run is out of memory. No clause says when it comes.
     Memory,
 }
 

@@ -11,9 +11,10 @@ use itoa::Buffer;
 use pg_base::{Edge, EdgeList};
 use pg_outside::{Failed, Sink};
 
-/// Writes a line `u v w` for each of the graph's edges with these indices, in this order, and then `total T` with the
-/// sum T of their weights, each line by one call. After an `Err`, which comes only where the sink's count of faults
-/// rose, a front of this text was written.
+/// Writes a line `u v w` for each of the graph's edges with these indices, from 0, in this order, and then `total T`
+/// with the sum T of their weights, each line by one call. After an `Err`, which comes only where the sink's count of
+/// faults rose, a front of this text was written.
+/// Source: docs/FORMAT.md, the texts of answers.
 pub fn print_forest<S: Sink>(out: &mut S, graph: &EdgeList, edges: &[u32]) -> Result<(), Failed>
     requires indices { All (λ i. i < length graph.now.edges) edges.now }
     requires at_most { length edges.now ≤ length graph.now.edges }

@@ -1,5 +1,5 @@
-//! What the definitions of this crate's `specs/` say of small columns, forests and summaries, and of each fault. No call does anything:
-//! each is proved to meet the laws that its clauses state.
+//! What the definitions of this crate's `specs/` say of small columns, forests and summaries, and of each fault. No
+//! call does anything: each is proved to meet the laws that its clauses state.
 
 ghost use Rattle.std.specs.Prelude.{◌≡◌, Some, None, [], ◌∷◌, codes};
 ghost use Rattle.pg_print.specs.Columns.{answer_line, column_text};

@@ -1,5 +1,5 @@
 //! What the program writes: columns of answers, forests, summaries, and the line that reports a fault. Each line is one
-//! call of the sink, and no call takes memory.
+//! call of the sink, and no call allocates.
 #![tactic(auto)]
 
 mod columns;

@@ -16,6 +16,7 @@ const FAULT_LINE: usize = 80;
 
 /// Writes the line that reports the fault, by one call. After an `Err`, which comes only where the sink's count of
 /// faults rose, a front of this line was written.
+/// Source: docs/FORMAT.md, the texts of faults.
 pub fn print_fault<S: Sink>(out: &mut S, fault: &Fault) -> Result<(), Failed>
     ensures ok { OnOk result (Appends (S.text out.old) (S.text out.new) (fault_line fault.now)) }
     ensures err { OnErr result (AppendsFront (S.text out.old) (S.text out.new) (fault_line fault.now)) }

@@ -9,12 +9,14 @@ use crate::lines::{LINE, number_line, pair_line, triple_line};
 use arrayvec::ArrayString;
 use pg_outside::{Failed, Sink};
 
-/// Of the vertices that a walk joins to the first one: how many there are, and the greatest and the sum of their
-/// distances.
+/// Of the vertices that a walk joins to vertex 1: how many there are, and how far they are from it.
 #[derive(Clone, Copy, Debug, PartialEq, Eq)]
 pub struct Tally {
+    /// How many there are, vertex 1 among them.
     pub count: u64,
+    /// The greatest of their distances.
     pub far: u64,
+    /// The sum of their distances.
     pub sum: u64,
 }
 
@@ -25,9 +27,9 @@ pub struct Summary {
     pub vertices: u32,
     /// How many edges it has.
     pub edges: u32,
-    /// By least numbers of arcs.
+    /// The distances by least numbers of arcs.
     pub hops: Tally,
-    /// By least weights.
+    /// The distances by least weights.
     pub weights: Tally,
     /// How many components there are.
     pub components: u32,
@@ -41,6 +43,7 @@ pub struct Summary {
 
 /// Writes the seven lines of a summary, each by one call. After an `Err`, which comes only where the sink's count of
 /// faults rose, a front of this text was written.
+/// Source: docs/FORMAT.md, the texts of answers.
 pub fn print_summary<S: Sink>(out: &mut S, summary: &Summary) -> Result<(), Failed>
     ensures ok { OnOk result (Appends (S.text out.old) (S.text out.new) (summary_text summary.now)) }
     ensures err { OnErr result (AppendsFront (S.text out.old) (S.text out.new) (summary_text summary.now)) }

@@ -10,15 +10,15 @@ use Rattle.pg_text.specs.declared.lines.Line.{Line}
 abbrev pub held : LineReader → List ℕ
 held reader = slice_range reader.piece.items reader.start reader.end
 
--- The bytes not yet taken, where the input tells what it has left.
+-- The bytes not yet taken, where the input shows what it has left.
 abbrev pub bytes_ahead : LineReader → Option (List ℕ) → Option (List ℕ)
 bytes_ahead reader left = prepend_known (held reader) left
 
--- The lines not yet taken, where the input tells what it has left.
+-- The lines not yet taken, where the input shows what it has left.
 unfoldable pub coming : LineReader → Option (List ℕ) → Option Ahead
 coming reader left = option_map (ahead_within reader.room) (bytes_ahead reader left)
 
--- Where what was ahead is told, what is ahead now is told too, and the two are related like this.
+-- Where it is known what was ahead, it is known what is ahead now, and the two are related like this.
 abbrev pub Told : {X Y : Type 0} → Option X → Option Y → (X → Y → Type 0) → Type 0
 Told None now P = ⊤
 Told (Some x) None P = ⊥

@@ -15,7 +15,7 @@ abbrev pub given_by : Option LineReader → ℕ
 given_by None = 0
 given_by (Some reader) = reader.lines
 
--- The lines not yet given, where the input tells what it has left.
+-- The lines not yet given, where the input shows what it has left.
 unfoldable pub ahead : {I : Type 0} → Lines I → Option (List ℕ) → Option Ahead
 ahead lines left = ahead_of lines.reader lines.limit left
 

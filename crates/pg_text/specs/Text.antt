@@ -1,4 +1,4 @@
--- Lines, words and numbers of a text, told by cases on its bytes.
+-- Lines, words and numbers of a text, defined by cases on its bytes.
 -- Source: METIS 5.1 manual, section 4.1.1, in the profile of docs/FORMAT.md.
 use Rattle.std.specs.Prelude.{ℕ, ◌+◌, ◌-◌, ◌*◌, Bool, false, not, ◌&&◌, ◌||◌, ◌==◌, nat_le, if◌then◌else◌, Option, Some, None, option_and_then, List, [], ◌∷◌, length, fold}
 use Rattle.std.specs.List.{list_all}

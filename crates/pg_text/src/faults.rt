@@ -1,3 +1,4 @@
+//! Why no line was taken.
 ghost use Rattle.std.specs.Prelude.{◌≡◌};
 ghost use Rattle.pg_text.specs.declared.faults.TextFault.TheVariants.{Failed, OutOfMemory};
 
@@ -7,11 +8,11 @@ use std::alloc::{AllocError, AllocFailed};
 /// Why no line was taken.
 #[derive(Clone, Copy, Debug, PartialEq, Eq)]
 pub enum TextFault {
-    /// A read failed.
+    /// A read of the input failed.
     Failed,
     /// The line of this number, counted from 1, holds a byte past the limit.
     TooLong { line: u64 },
-    /// Want of memory. No clause says when it comes.
+    /// The run is out of memory. No clause says when it comes.
     OutOfMemory,
 }
 

@@ -11,9 +11,9 @@ use std::alloc::Global;
 /// A line of an input.
 #[derive(Debug, Drop, PartialEq, Eq)]
 pub struct Line {
-    /// Counted from 1.
+    /// The line's number, counted from 1.
     pub number: u64,
-    /// Without the newline.
+    /// The line's bytes, without the newline.
     pub bytes: Vec<u8>,
 }
 
@@ -55,10 +55,10 @@ impl<'a, I: Inputs> Lines<'a, I> {
         }
     }
 
-    /// The next line, comment lines among them. `None` comes exactly where no line is left, and the input was
-    /// then read to its end. `TooLong` comes exactly where the next line holds a byte past the limit, `Failed`
-    /// only where the input's count of faults rose. After an error the lines are over: the front of a line may
-    /// be lost, so no further one may be asked for. The input is still given back.
+    /// The next line, comment lines among them. `None` comes exactly where no line is left, and the input was then
+    /// read to its end. `TooLong` comes exactly where the next line holds a byte past the limit, `Failed` only where
+    /// the input's count of faults rose, and `OutOfMemory` may come in any call. After an error the lines are over:
+    /// the front of a line may be lost, so no further one may be asked for. The input is still given back.
     #[tactic(auto, unfolding(crate::specs::Giving::ahead, crate::specs::Giving::given))]
     pub fn next(&mut self, alloc: Global) -> Result<Option<Line>, TextFault>
         requires begun { IsTrue (I.begun self.old.inputs.now) }

@@ -6,6 +6,7 @@ use memchr::memchr;
 use pg_outside::Inputs;
 use std::alloc::{AllocError, Global};
 
+/// How many bytes one read asks for.
 const PIECE_BYTES: usize = 65_536;
 
 /// Takes an input's lines one after another into one buffer. The input is handed in at each call.
@@ -38,7 +39,8 @@ impl LineReader {
     ghost use Rattle.pg_text.specs.Cuts.{IsNewlineAt, IsOverlong};
     ghost use Rattle.pg_text.specs.Taking.{FillsLine, HasMore, TakesPart};
 
-    /// A reader at the start of an input, of which no more than `limit` bytes may be taken.
+    /// A reader at the start of an input, of which no more than `limit` bytes may be taken. `Err` says that the run is
+    /// out of memory.
     pub fn new(alloc: Global, limit: u64) -> Result<LineReader, AllocError>
         requires few { limit < 2 ^ 64 - 1 }
         ensures coming { IfOk result (λ reader. (left : Option (List ℕ)) → coming reader left ≡ option_map (ahead_within limit) left) }
@@ -72,8 +74,9 @@ impl LineReader {
 
     /// Takes the next line, and says whether there was one; where there was none, the input was read to its
     /// end. `TooLong` comes exactly where the next line holds a byte past the limit, `Failed` only where the
-    /// input's count of faults rose. After an error the front of a line may be lost, so nothing is said of
-    /// the lines that further calls take; how many were taken before it is still told.
+    /// input's count of faults rose, and `OutOfMemory` may come in any call. After an error the front of a line may be
+    /// lost, so nothing is said of the lines that further calls take; `line_number` still answers how many were taken
+    /// before it.
     pub fn next<I: Inputs>(&mut self, inputs: &mut I) -> Result<bool, TextFault>
         requires begun { IsTrue (I.begun inputs.old) }
         ensures later { I.faults inputs.old ≤ I.faults inputs.new }

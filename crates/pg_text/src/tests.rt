@@ -1,3 +1,4 @@
+//! Lines of files in memory, which come in pieces, and the words and numbers of a line.
 ghost use Rattle.std.specs.Prelude.{◌≡◌, ◌≤◌, ◌<◌, ◌-◌, ◌^◌, true, IfOk};
 ghost use Rattle.pg_outside.specs.MemoryInputs.{is_begun};
 

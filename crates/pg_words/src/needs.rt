@@ -25,6 +25,7 @@ fn algorithm_named(word: &str) -> Option<Algorithm>
     }
 }
 
+/// Whether the algorithm takes a graph file.
 fn file_need(algorithm: Algorithm) -> Need
     ensures { result ≡ file_need algorithm }
 {
@@ -34,6 +35,7 @@ fn file_need(algorithm: Algorithm) -> Need
     }
 }
 
+/// Whether the algorithm takes a partition file.
 fn parts_need(algorithm: Algorithm) -> Need
     ensures { result ≡ parts_need algorithm }
 {
@@ -43,6 +45,7 @@ fn parts_need(algorithm: Algorithm) -> Need
     }
 }
 
+/// Whether the algorithm takes a source.
 fn source_need(algorithm: Algorithm) -> Need
     ensures { result ≡ source_need algorithm }
 {
@@ -52,6 +55,7 @@ fn source_need(algorithm: Algorithm) -> Need
     }
 }
 
+/// Whether the algorithm takes a delta.
 pub fn delta_need(algorithm: Algorithm) -> Need
     ensures { result ≡ delta_need algorithm }
 {
@@ -61,7 +65,7 @@ pub fn delta_need(algorithm: Algorithm) -> Need
     }
 }
 
-/// The width, the height and the seed.
+/// Whether the algorithm takes a width, a height and a seed.
 fn size_need(algorithm: Algorithm) -> Need
     ensures { result ≡ size_need algorithm }
 {
@@ -79,7 +83,7 @@ pub fn algorithm(matches: &ArgMatches) -> Option<Algorithm>
     algorithm_named(told(matches, "algorithm")?)
 }
 
-/// Whether a word is there, where it is wanted, and isn't, where it is refused.
+/// Whether a word is there where it is required, and isn't where it is refused.
 fn is_met(need: Need, word: Option<&str>) -> bool
     ensures { result ≡ is_met need (option_map (λ s. s.now) word.entry) }
 {

@@ -14,7 +14,8 @@ use crate::{Algorithm, Plan, PlanFault};
 use clap::ArgMatches;
 use std::alloc::{AllocError, Global};
 
-/// The plan that the words after the program's name mean. `BadWords` exactly where they mean none.
+/// The plan that the words after the program's name mean. `BadWords` comes only where they mean none; `OutOfMemory` may
+/// come with any words.
 ///
 /// The words are the algorithm, its file and options, each of which takes one value, as `--source 1` or
 /// `--source=1`. Options stand anywhere up to a word `--`. These have a plan, and nothing else has:
@@ -26,12 +27,12 @@ use std::alloc::{AllocError, Global};
 /// - `colour FILE`
 /// - `grid --width W --height H --seed S [--delta D]`
 ///
-/// each with `[--ranks P] [--threads T] [--capacity C]` and all but `grid` with `[--parts FILE2]`, for P ranks (1 to 32; 1 without the word)
-/// on T threads (1 to 32; as many as ranks without the word), with lanes of C messages (1 to 1,024; 1,024 without
-/// the word) and the partition file FILE2, whose name may be empty. D is 1 to 4,294,967,295 (32 without the word). W and
-/// H are at least 1, and their product is at most 1,048,576. `delta` is 0 in the plan of another algorithm than `sssp`
-/// and `grid`, and `source` is 0 in that of `components`, `forest`, `colour` and `grid`. Each number is one to ten decimal
-/// digits; V and S are worth at most 4,294,967,295. A source of 0 is no bad word.
+/// each with `[--ranks P] [--threads T] [--capacity C]` and all but `grid` with `[--parts FILE2]`, for P ranks (1 to
+/// 32; 1 without the word) on T threads (1 to 32; as many as ranks without the word), with lanes of C messages (1 to
+/// 1,024; 1,024 without the word) and the partition file FILE2, whose name may be empty. D is 1 to 4,294,967,295 (32
+/// without the word). W and H are at least 1, and their product is at most 1,048,576. `delta` is 0 in the plan of
+/// another algorithm than `sssp` and `grid`, and `source` is 0 in that of `components`, `forest`, `colour` and `grid`.
+/// Each number is one to ten decimal digits; V and S are worth at most 4,294,967,295. A source of 0 is no bad word.
 pub fn plan(alloc: Global, words: &[String]) -> Result<Plan, PlanFault>
     ensures planned { IfOk result (λ p. plan_of (texts words.now) ≡ Some (meaning_of p)) }
     ensures bad_words { result ≡ Err PlanFault.BadWords → plan_of (texts words.now) ≡ None }

@@ -22,23 +22,27 @@ pub enum Algorithm {
 /// What the words of a command line mean. Fields that the algorithm doesn't use are empty or 0.
 #[derive(Debug, Drop)]
 pub struct Plan {
+    /// What is computed.
     pub algorithm: Algorithm,
-    /// The name of the graph file.
+    /// The name of the graph file; empty for a grid.
     pub file: String,
-    /// How many ranks divide the graph.
+    /// How many ranks divide the graph, from 1 to 32.
     pub ranks: u32,
-    /// How many threads drive the ranks.
+    /// How many threads drive the ranks, from 1 to 32.
     pub threads: u32,
     /// The name of the partition file; the block distribution where there is none.
     pub parts: Option<String>,
-    /// The vertex that distances count from, by number.
+    /// The number of the vertex that distances count from. The graph may have no such vertex.
     pub source: u32,
-    /// The width of a bucket of delta-stepping.
+    /// The width of a bucket of delta-stepping, in units of weight.
     pub delta: u32,
-    /// How many messages a lane holds.
+    /// How many messages a lane holds at most, from 1 to 1,024.
     pub capacity: u32,
+    /// How many columns the grid has.
     pub width: u32,
+    /// How many rows the grid has.
     pub height: u32,
+    /// The seed from which the grid's edges and weights are drawn.
     pub seed: u32,
 }
 
@@ -47,7 +51,7 @@ pub struct Plan {
 pub enum PlanFault {
     /// The words are no command line.
     BadWords,
-    /// Want of memory. No clause says when it comes.
+    /// The run is out of memory. No clause says when it comes.
     OutOfMemory,
 }
 
@@ -62,11 +66,14 @@ impl From<AllocError> for PlanFault {
     }
 }
 
-/// Whether an algorithm wants a word, takes it or refuses it.
+/// Whether an algorithm requires a word, takes it or refuses it.
 #[derive(Clone, Copy, Debug, PartialEq, Eq)]
 pub enum Need {
+    /// The word has to be there.
     Required,
+    /// The word may be there.
     Optional,
+    /// The word may not be there.
     Refused,
 }
 

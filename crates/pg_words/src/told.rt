@@ -8,14 +8,14 @@ ghost use Rattle.pg_words.specs.Plan.{number_or, number_within};
 use clap::ArgMatches;
 use pg_text::number;
 
-/// The value of a positional or an option.
+/// The value of a positional or an option, or `None` where the words have none.
 pub fn told<'a>(matches: &ArgMatches<'a>, name: &str) -> Option<&'a str>
     ensures { option_map (λ s. s.now) result ≡ told (rows_of (found_of matches.now)) name.now }
 {
     matches.get_str(name)
 }
 
-/// A number from `least` to `most`.
+/// The number from `least` to `most` that the word is. `None` where it is no such number.
 #[tactic(auto, unfolding(crate::specs::Plan::number_within))]
 fn number_within(least: u32, most: u32, word: &str) -> Option<u32>
     ensures value { result ≡ number_within least most word.now }
@@ -29,7 +29,8 @@ fn number_within(least: u32, most: u32, word: &str) -> Option<u32>
     }
 }
 
-/// A number from `least` to `most`, or `otherwise` where the word isn't there.
+/// The number from `least` to `most` that the word is, or `otherwise` where the word isn't there. `None` where it is no
+/// such number.
 fn number_or(otherwise: u32, least: u32, most: u32, word: Option<&str>) -> Option<u32>
     ensures value { result ≡ number_or otherwise least most (option_map (λ s. s.now) word.entry) }
     ensures given { is_some word.entry ≡ true → IfSome result (λ value. least ≤ value) }
@@ -41,7 +42,8 @@ fn number_or(otherwise: u32, least: u32, most: u32, word: Option<&str>) -> Optio
     }
 }
 
-/// The number that an option gives, from `least` to `most`, or `otherwise` where it isn't there.
+/// The number that an option gives, from `least` to `most`, or `otherwise` where it isn't there. `None` where its
+/// value is no such number.
 pub fn number_told(
     matches: &ArgMatches,
     name: &str,
