@@ -31,8 +31,8 @@ pub record IsHeld (parts : List Portion) (rank : ℕ) (p : Portion) (place : ℕ
   pub home : ghost_there.home.0 ≡ rank
   pub at : ghost_there.place ≡ place
 
--- Ghosts and holders mirror each other. A vertex is own at one place of one rank, and in at most one slot of a rank, which its
--- owner has as a holder once.
+-- Ghosts and holders mirror each other. A vertex is own at one place of one rank, and in at most one slot of a rank,
+-- which its owner has as a holder once.
 pub record AreMirrored (parts : List Portion) : Type 0 where
   pub kept : (rank slot : ℕ) (p : Portion) (g : Ghost) → slice_get parts rank ≡ Some p → slice_get p.ghosts slot ≡ Some g → IsKept parts rank slot g
   pub held : (rank place : ℕ) (p : Portion) (h : Holder) → slice_get parts rank ≡ Some p → place < length p.vertices → Contains (holders_at p place) h → IsHeld parts rank p place h

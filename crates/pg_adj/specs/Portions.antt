@@ -40,8 +40,8 @@ pub record IsVertex (n : ℕ) (v : ℕ) : Type 0 where
   pub first : 1 ≤ v
   pub last : v ≤ n
 
--- Own vertices, arcs, ghosts and holders lie within the graph and the group. Own vertices ascend, and so do the arcs of a
--- place by where they lead, the ghosts by vertex, and the holders of a place by rank. No ghost is an own vertex.
+-- Own vertices, arcs, ghosts and holders lie within the graph and the group. Own vertices ascend, and so do the arcs of
+-- a place by where they lead, the ghosts by vertex, and the holders of a place by rank. No ghost is an own vertex.
 pub record IsPortion (p : Portion) : Type 0 where
   pub rank : p.rank < p.ranks
   pub n : p.n ≤ MAX_VERTICES

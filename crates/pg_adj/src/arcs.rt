@@ -1,4 +1,4 @@
-//! What the parts of a divided graph consist of.
+//! Arcs, ghosts and holders: what the parts of a divided graph consist of.
 
 use pg_base::{RankNo, Vertex};
 
@@ -9,11 +9,11 @@ pub struct Arc {
     pub to: Vertex,
     /// The rank that owns `to`.
     pub home: RankNo,
-    /// The place of `to` among the vertices of its owner.
+    /// The place of `to` among the vertices of its owner, from 0.
     pub place: u32,
     /// The weight of the edge.
     pub w: u32,
-    /// The index of the edge in the graph's list of edges.
+    /// The index of the edge in the graph's list of edges, from 0.
     pub edge: u32,
 }
 
@@ -24,7 +24,7 @@ pub struct Ghost {
     pub vertex: Vertex,
     /// The rank that owns it.
     pub home: RankNo,
-    /// Its place among the vertices of its owner.
+    /// Its place among the vertices of its owner, from 0.
     pub place: u32,
 }
 
@@ -33,6 +33,6 @@ pub struct Ghost {
 pub struct Holder {
     /// The rank.
     pub rank: RankNo,
-    /// The index of the vertex in that rank's list of ghosts.
+    /// The index of the vertex in that rank's list of ghosts, from 0.
     pub slot: u32,
 }

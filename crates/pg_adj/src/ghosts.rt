@@ -25,8 +25,8 @@ pub struct GhostList {
     pub ghosts: Vec<Ghost>,
 }
 
-/// For each vertex v, at the place v - 1, the ranks that hold it as a ghost: as each edge gives two arcs, these are the homes
-/// of v's own arcs but its owner. Takes time linear in the vertices and the arcs.
+/// For each vertex v, at the place v - 1, the ranks that hold it as a ghost: as each edge gives two arcs, these are the
+/// homes of v's own arcs but its owner. Takes time linear in the vertices and the arcs.
 pub fn holding_ranks<D: Distribution>(
     alloc: Global,
     graph: &EdgeList,

@@ -14,8 +14,11 @@ use pg_base::{OutOfMemory, RankNo, Ranks, Vertex};
 use std::alloc::Global;
 use std::marker::Model;
 
-/// What one rank holds of a divided graph. Its own vertices have the places from 0 to its count; the arcs
-/// of one place lie side by side, and so do its holders.
+/// What one rank holds of a divided graph: its own vertices, with the arcs and the holders of each, and its ghosts. Own
+/// vertices have the places from 0 to `count` - 1, ghosts the slots from 0.
+///
+/// Source: Gregor and Lumsdaine, Lifting Sequential Graph Algorithms for Distributed-Memory Parallel Computation
+/// (OOPSLA 2005): distributed adjacency lists and ghost cells.
 #[derive(Debug, Drop)]
 pub struct Part {
     rank: RankNo,
@@ -136,7 +139,7 @@ impl Part {
         self.vertices.len() as u32
     }
 
-    /// The own vertex at the place `i`.
+    /// The own vertex at the place `i`, from 0.
     pub fn vertex(&self, i: u32) -> Vertex
         requires { i < length self.now.vertices }
         ensures value { result.0 ≡ slice_index self.now.vertices i }
@@ -167,16 +170,18 @@ impl Part {
         &self.ghosts
     }
 
-    /// Beside each arc, place after place, the slot of the ghost that it leads to: its index in `ghosts`. `None` where it
-    /// leads to no ghost. `beside` gives the slots of one place. Takes time linear in the graph's vertices and the part's arcs;
-    /// 8 bytes an arc, and meanwhile 8 bytes a vertex. `OutOfMemory` comes only where memory is wanting.
+    /// For each arc, place after place, the slot of the ghost that it leads to, which is its index in `ghosts`; `None`
+    /// where it leads to no ghost. `beside` gives the slots of one place. Takes time linear in the graph's vertices
+    /// and the part's arcs, 8 bytes an arc for the answer, and meanwhile 8 bytes for each vertex of the graph.
+    /// `OutOfMemory` comes only where an allocation is refused.
     pub fn slots(&self, alloc: Global) -> Result<Vec<Option<u32>>, OutOfMemory>
         ensures { IfOk result (λ slots. AreSlotsOf self.now.ghosts self.now.arcs slots.items) }
     {
         slots_of(alloc, self.n, &self.ghosts, &self.arcs).map_err(|_| OutOfMemory)
     }
 
-    /// Of items that lie beside the arcs, one for each in their order, those beside the arcs of the place `i`.
+    /// The items of the arcs from the own vertex at the place `i`. `items` has one for each arc of the part, in the
+    /// order of `slots`.
     pub fn beside<'a, T>(&self, i: u32, items: &'a [T]) -> &'a [T]
         requires place { i < length self.now.vertices }
         requires each { length items.now ≡ length self.now.arcs }

@@ -19,9 +19,9 @@ use pg_dist::Distribution;
 use std::alloc::{AllocError, Global};
 
 /// Divides `graph` as `dist` says: one part for each rank, in order. Each edge gives two arcs, each at the
-/// owner of the vertex from which it leads. Takes time linear in the graph; memory by exact size, beside the
-/// parts 4 bytes a vertex, and before 16 bytes for each of up to 2,097,152 edges.
-/// `OutOfMemory` comes only where memory is wanting.
+/// owner of the vertex from which it leads. Takes time linear in the graph. Beside the parts, whose lists have no
+/// spare room, it takes 4 bytes a vertex, and before that 16 bytes for each of up to 2,097,152 edges.
+/// `OutOfMemory` comes only where an allocation is refused.
 pub fn split<D: Distribution>(
     alloc: Global,
     graph: &EdgeList,

@@ -1,3 +1,5 @@
+//! Small graphs divided in blocks and by a list, against a filter of their edges.
+
 ghost use Rattle.std.specs.Prelude.{◌≡◌, ◌≤◌, [], ◌∷◌};
 ghost use Rattle.pg_base.specs.Graph.{IsGraph};
 ghost use Rattle.pg_base.specs.Examples.{edge, graph};

@@ -1,4 +1,4 @@
--- The least spanning forest, told by the cycle property, and what it means to span.
+-- The least spanning forest, defined by the cycle property, and what it means to span.
 -- Source: Cormen, Leiserson, Rivest and Stein, Introduction to Algorithms, chapter 23; Tarjan, Data
 -- Structures and Network Algorithms, chapter 6 (an edge is out exactly where lesser edges join its ends).
 use Rattle.std.specs.Prelude.{◌↔◌, ℕ, Bool, ◌&&◌, ◌||◌, ◌==◌, nat_lt, List, filter, sum_by, All, AllPairs, Contains}

@@ -13,6 +13,6 @@ status_number WriteFault = 6
 status_number NoMemory = 7
 status_number BadSource = 8
 
--- An exit status tells the outcome.
+-- No two outcomes have the same exit status.
 abbrev pub StatusesDiffer : Type 0
 StatusesDiffer = (s t : Status) → status_number s ≡ status_number t → s ≡ t

@@ -1,12 +1,17 @@
+//! A graph as the list of its weighted edges.
+
 ghost use Rattle.std.specs.Prelude.{◌≡◌};
 
 use std::marker::Model;
 
-/// An undirected edge between the vertices `u` and `v`, of weight `w`.
+/// An undirected edge between two vertices, with its weight.
 #[derive(Clone, Copy, Debug, PartialEq, Eq)]
 pub struct Edge {
+    /// One end, a vertex by its number from 1; in an [`EdgeList`] the lesser end.
     pub u: u32,
+    /// The other end.
     pub v: u32,
+    /// The weight; in an [`EdgeList`] at least 1.
     pub w: u32,
 }
 
@@ -32,7 +37,7 @@ impl Model for EdgeList {
 impl EdgeList {
     ghost use Rattle.pg_base.specs.Graph.{Graph, IsGraph};
 
-    /// The graph of `n` vertices with these edges. Takes no memory.
+    /// The graph of `n` vertices with these edges, which keep the rules of [`EdgeList`]. Allocates nothing.
     pub fn new(n: u32, edges: Vec<Edge>) -> EdgeList
         requires { IsGraph (record { n = n; edges = edges.items }) }
         ensures { result ≡ record { n = n; edges = edges.items } }
@@ -48,7 +53,7 @@ impl EdgeList {
         self.n
     }
 
-    /// The edges, ascending.
+    /// The edges, ascending in (u, v). The index of one is its place here, from 0.
     pub fn edges(&self) -> &[Edge]
         ensures value { result.now ≡ self.now.edges }
         ensures graph { IsGraph self.now }
@@ -56,7 +61,7 @@ impl EdgeList {
         &self.edges
     }
 
-    /// The list of edges itself. Takes no memory.
+    /// The list of the edges itself, ascending in (u, v). Allocates nothing.
     pub fn into_edges(self) -> Vec<Edge>
         ensures { result.items ≡ self.edges }
     {

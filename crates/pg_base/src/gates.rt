@@ -1,8 +1,10 @@
+//! The gate: a call at the start of each turn of a rank, in which a test can hold the rank.
+
 use crate::RankNo;
 
 /// What a rank passes at the start of each turn. A test that implements it can hold a rank there.
 pub trait Gate: Sync {
-    /// `rank` is about to begin its turn number `turn`, counted from 1.
+    /// Called when `rank` is about to begin its turn number `turn`, counted from 1. The turn begins once this returns.
     fn pass(&self, rank: RankNo, turn: u64);
 }
 

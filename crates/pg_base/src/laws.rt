@@ -178,8 +178,8 @@ pub fn answer_laws()
     ensures lowest { LowestIsOne }
 {}
 
-/// The best value is one. By hops, weights and roots its amount or class is the least number of arcs, the least weight and
-/// the lowest vertex.
+/// The best value is one. By hops, weights and roots its amount or class is the least number of arcs, the least weight
+/// and the lowest vertex.
 pub fn best_laws()
     ensures one { BestIsOne }
     ensures hops { HopsAreLeast }
@@ -187,7 +187,8 @@ pub fn best_laws()
     ensures roots { RootsAreLowest }
 {}
 
-/// Keys are a strict order that tells edges apart. In a graph w * 2^23 + index orders edges alike.
+/// Keys are a strict order: of two different edges one has the lesser key. In a graph w * 2^23 + index orders edges
+/// alike.
 pub fn key_laws()
     ensures strict { KeysAreStrict }
     ensures carry_over { KeysCarryOver }

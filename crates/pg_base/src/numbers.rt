@@ -1,3 +1,5 @@
+//! Vertices, ranks, and how many ranks a group has.
+
 ghost use Rattle.std.specs.Prelude.{◌≡◌, ◌≤◌, IsSome, IfSome};
 
 use crate::MAX_RANKS;
@@ -42,7 +44,7 @@ impl Ranks {
         Some(Ranks { count })
     }
 
-    /// How many ranks there are.
+    /// How many ranks there are, 1 to 32.
     pub fn count(&self) -> u32
         ensures value { result ≡ self.now }
         ensures at_least_one { 1 ≤ result }

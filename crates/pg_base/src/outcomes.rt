@@ -1,7 +1,9 @@
+//! How a run of the program ended, and the exit status of the process.
+
 ghost use Rattle.std.specs.Prelude.{◌≡◌};
 ghost use Rattle.pg_base.specs.Outcome.{status_number};
 
-/// Want of memory. No clause says when it comes.
+/// Out of memory. No clause says when it comes.
 #[derive(Clone, Copy, Debug, PartialEq, Eq)]
 pub struct OutOfMemory;
 
@@ -10,7 +12,7 @@ pub struct OutOfMemory;
 pub enum Status {
     /// The answer was written.
     Ok,
-    /// The words are no command line.
+    /// The words of the command line have a fault.
     BadWords,
     /// The graph file has a fault.
     BadGraph,
@@ -20,7 +22,7 @@ pub enum Status {
     ReadFault,
     /// A write failed.
     WriteFault,
-    /// Want of memory. No clause says when it comes.
+    /// The run was out of memory. No clause says when it comes.
     NoMemory,
     /// The source is no vertex of the graph.
     BadSource,

@@ -1,3 +1,5 @@
+//! Small cases of ranks, edge lists, exit statuses and the open gate.
+
 use crate::{Edge, EdgeList, Gate, OpenGate, RankNo, Ranks, Status, laws};
 use std::test::Fail;
 

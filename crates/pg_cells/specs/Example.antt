@@ -1,5 +1,5 @@
--- A synchronize of two ranks that own one vertex each, with an edge between them. The greatest value wins, and the first rank
--- puts 5 to its ghost of the other's vertex.
+-- A synchronize of two ranks that own one vertex each, with an edge between them. The greatest value wins, and the
+-- first rank puts 5 to its ghost of the other's vertex.
 use Rattle.std.specs.Prelude.{ℕ, ◌+◌, ◌-◌, true, false, List, [], ◌∷◌, Some, None}
 use Rattle.std.proofs.Common.{refl}
 use Rattle.pg_base.specs.Graph.{Graph}

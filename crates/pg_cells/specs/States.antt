@@ -23,8 +23,8 @@ abbrev pub refreshes_of : Portion → List PendingRefresh
 refreshes_of part = refreshes_below part (length part.vertices)
 
 -- The cells over a part. Own cells are listed by place, ghosts by slot. What is owed to the ghosts' owners, and which
--- ghosts are noted, are listed by slot too. `unsent` says, in the order of these refreshes, which own cells are yet to go to
--- which holder.
+-- ghosts are noted, are listed by slot too. `unsent` says, in the order of these refreshes, which own cells are yet to
+-- go to which holder.
 pub record CellState : Type 0 where
   pub part : Portion
   pub flags : Flags

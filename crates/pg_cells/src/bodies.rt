@@ -1,4 +1,6 @@
-/// What the cells of two ranks send each other.
+//! The messages between the property maps of two ranks.
+
+/// What the cells of two ranks send each other. Places and slots count from 0, and are those of the rank that gets it.
 #[derive(Clone, Copy, Debug, PartialEq, Eq)]
 pub enum CellBody {
     /// A value joins the own cell at this place.

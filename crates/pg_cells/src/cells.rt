@@ -1,3 +1,5 @@
+//! What a rank keeps of a property map: its cells, and what is still to be sent of them.
+
 ghost use Rattle.std.specs.Prelude.{◌≡◌, ℕ, ◌<◌, false, true, [], All, None, length, slice_index_or, is_some};
 ghost use Rattle.pg_adj.specs.Portions.{IsForeign};
 ghost use Rattle.pg_cells.specs.States.{refreshes_of};
@@ -13,8 +15,8 @@ use std::snapshot::Snapshot;
 /// A property map over one rank's part of a divided graph: a value for each of its own vertices and of its ghosts.
 ///
 /// Between two synchronizes values are put, which join what the cells hold. A synchronize begins on each rank with
-/// `close`, in the same round on all of them. It ends with that round, with backward one round later; each ghost then
-/// holds what the flags say.
+/// `close`, in the same round on all of them. It ends with that round, or with backward one round later; each ghost
+/// then holds what the flags say.
 ///
 /// Source: the distributed property maps of the Parallel Boost Graph Library.
 #[derive(Drop)]

@@ -1,3 +1,5 @@
+//! The consistency model of a property map, as five flags.
+
 ghost use Rattle.std.specs.Prelude.{◌≡◌, ◌&&◌, ◌||◌, true, false, IfOk, OnErr};
 ghost use Rattle.pg_cells.specs.Consistency.{contradicts};
 
@@ -15,7 +17,7 @@ pub struct Flags {
     ghost permitted: { contradicts forward backward flush reset clear ≡ false },
 }
 
-/// The flags contradict each other.
+/// The flags contradict each other, as [`Flags::new`] says.
 #[derive(Clone, Copy, Debug, PartialEq, Eq)]
 pub struct BadFlags;
 
@@ -57,7 +59,7 @@ impl Flags {
         })
     }
 
-    /// Forward and backward.
+    /// The consistency model with forward and backward, and no other flag.
     pub fn bidirectional() -> Flags
         ensures forward { result.forward ≡ true }
         ensures backward { result.backward ≡ true }

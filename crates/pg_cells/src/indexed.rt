@@ -8,7 +8,7 @@ ghost use Rattle.pg_cells.specs.declared.phases.Phase.TheVariants.{Filling};
 use crate::{Cells, Resolver};
 
 impl<R: Resolver> Cells<R> {
-    /// The value of the own vertex at the place.
+    /// The value of the own vertex at the place, from 0.
     pub fn at_place(&self, place: u32) -> u64
         requires { place < length self.now.part.value.vertices }
         ensures { result ≡ slice_index (state_of self.now).own place }
@@ -16,8 +16,8 @@ impl<R: Resolver> Cells<R> {
         self.own[place as usize]
     }
 
-    /// The value of the ghost in the slot. `None` comes exactly where the ghost was emptied and was neither put to nor
-    /// refreshed since.
+    /// The value of the ghost in the slot, from 0. `None` comes exactly where the ghost was emptied and was neither put
+    /// to nor refreshed since.
     pub fn at_slot(&self, slot: u32) -> Option<u64>
         requires { slot < length self.now.part.value.ghosts }
         ensures { result ≡ slice_index_or (state_of self.now).ghosts slot None }
@@ -25,7 +25,7 @@ impl<R: Resolver> Cells<R> {
         self.ghosts[slot as usize]
     }
 
-    /// Puts `x` to the own vertex at the place: the cell's value and `x` are joined.
+    /// Puts `x` to the own vertex at the place, from 0: the cell's value and `x` are joined. All other cells stay.
     pub fn put_at(&mut self, place: u32, x: u64)
         requires below { place < length self.old.part.value.vertices }
         requires filling { self.old.phase ≡ Filling }

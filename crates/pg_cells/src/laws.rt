@@ -1,5 +1,5 @@
-//! An example of what the laws of a synchronize take as given. The call does nothing: it is proved to meet the laws that its
-//! clauses state.
+//! An example of what the laws of a synchronize take as given. The call does nothing: it is proved to meet the laws
+//! that its clauses state.
 
 ghost use Rattle.std.specs.Prelude.{max};
 ghost use Rattle.pg_cells.specs.Example.{both_ways, cells, parts, runs, start};

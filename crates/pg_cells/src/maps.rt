@@ -1,3 +1,5 @@
+//! The calls of a property map: a new one, puts and reads of values, and the steps of a synchronize.
+
 ghost use Rattle.std.specs.Prelude.{◌≡◌, ◌↔◌, ◌<◌, true, false, All, IfOk, length, map};
 ghost use Rattle.pg_cells.specs.States.{new_cells, IsKnown, IsValueOf};
 ghost use Rattle.pg_cells.specs.Steps.{CellsStep, MayEnd, synchronizes, join_own, join_ghost, joined, after_body, ghosts_after};
@@ -18,8 +20,8 @@ use std::alloc::{AllocError, Global};
 use std::snapshot::Snapshot;
 
 impl<R: Resolver> Cells<R> {
-    /// New cells over a part: every cell, own or ghost, holds its start value. Takes all memory that the map
-    /// needs; `OutOfMemory` comes only where memory is wanting.
+    /// New cells over a part: every cell, own or ghost, holds its start value. No other call of the map allocates;
+    /// `OutOfMemory` comes only where an allocation is refused.
     pub fn new(
         alloc: Global,
         part: &Part,
@@ -51,7 +53,7 @@ impl<R: Resolver> Cells<R> {
 
     /// Puts `x` to the vertex `v`: the cell's value and `x` are joined; a ghost that was emptied takes `x` as it is.
     /// With forward, what is put to a ghost is owed to its owner, several puts joined into one; with flush, the
-    /// ghost is noted.
+    /// ghost is noted, and its value goes to the owner at the next synchronize.
     pub fn put(&mut self, v: Vertex, x: u64)
         requires known { IsKnown self.old.part.value v.0 }
         requires filling { self.old.phase ≡ Filling }
@@ -82,7 +84,7 @@ impl<R: Resolver> Cells<R> {
         }
     }
 
-    /// Begins a synchronize: from here on nothing is put until it has ended.
+    /// Begins a synchronize: from here on nothing is put until it has ended. No cell changes.
     pub fn close(&mut self)
         requires { self.old.phase ≡ Filling }
         ensures step { CellsStep (R.join self.old.resolver) (R.start self.old.resolver) (state_of self.old) closed (state_of self.new) }
@@ -93,7 +95,7 @@ impl<R: Resolver> Cells<R> {
     }
 
     /// Takes a body from another rank: a `Put` joins its value to the own cell at its place, a `Refresh` replaces
-    /// the ghost in its slot. A place or slot out of range changes nothing.
+    /// the ghost in its slot. A place or slot out of range changes nothing, and the phase stays.
     pub fn handle(&mut self, from: RankNo, body: CellBody)
         ensures step { CellsStep (R.join self.old.resolver) (R.start self.old.resolver) (state_of self.old) (handled from.0 body) (state_of self.new) }
         ensures resolver { self.new.resolver ≡ self.old.resolver }
@@ -106,10 +108,10 @@ impl<R: Resolver> Cells<R> {
         }
     }
 
-    /// Ends a round, and answers whether a synchronize has ended with it. Nothing may be left to be sent but in phase
-    /// Filling, where nothing changes. In Closing with backward the map turns to Refreshing; without it each ghost takes
-    /// its start value with reset and is emptied with clear, and the map turns to Filling. In Refreshing it turns to
-    /// Filling.
+    /// Ends a round, and answers whether a synchronize has ended with it. In phase Filling nothing changes; in the
+    /// other phases nothing may be left to be sent. In Closing with backward the map turns to Refreshing; without it
+    /// each ghost takes its start value with reset and is emptied with clear, and the map turns to Filling. In
+    /// Refreshing it turns to Filling.
     ///
     /// Where all ranks close in the same round, and each handles in each round just what was sent to it there, with
     /// backward each ghost is then its owner's cell (`refreshes`), and with forward too that cell has joined every

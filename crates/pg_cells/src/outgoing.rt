@@ -1,3 +1,5 @@
+//! What a property map sends next, and to which rank.
+
 use crate::CellBody;
 use pg_base::RankNo;
 

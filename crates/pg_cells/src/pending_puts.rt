@@ -1,10 +1,13 @@
+//! What is still to be sent to the owners of a rank's ghosts.
+
 ghost use Rattle.std.specs.Prelude.{◌≡◌, ◌<◌, ◌≤◌, true, false, All, Some, None, IfOk, IfSome, length, replicate, slice_set, slice_index_or};
 ghost use Rattle.std.specs.Vec.{vec_capacity};
 ghost use Rattle.pg_cells.specs.PendingPuts.{ArePending, is_pending, next_slot};
 
 use std::alloc::{AllocError, Global};
 
-/// What is pending for the owners of a rank's ghosts: puts that are owed, or a note that the ghost's value is to be sent.
+/// What is pending for the owners of a rank's ghosts: puts that are owed, or a note that the ghost's value is to be
+/// sent.
 #[derive(Drop)]
 pub struct PendingPuts {
     /// What is owed for each slot, from 0 up to as many as puts may be owed for.

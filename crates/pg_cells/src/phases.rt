@@ -1,3 +1,5 @@
+//! The phases of a property map.
+
 /// Whether values may be put, or how far a synchronize has come.
 #[derive(Clone, Copy, Debug, PartialEq, Eq)]
 pub enum Phase {

@@ -1,3 +1,5 @@
+//! The place of each own vertex, found in constant time.
+
 ghost use Rattle.std.specs.Prelude.{◌≡◌, ◌≢◌, ℕ, ◌+◌, ◌-◌, ◌^◌, ◌<◌, ◌≤◌, All, Option, Some, None, IfOk, IfSome, length, slice_get};
 ghost use Rattle.pg_cells.specs.Sparse.{AreFound};
 

@@ -1,3 +1,5 @@
+//! The own cells that are still to be sent to their holders.
+
 ghost use Rattle.std.specs.Prelude.{◌≡◌, ◌+◌, ◌<◌, ◌≤◌, ◌++◌, All, IfOk, IfSome, None, OnOk, length, map, min};
 ghost use Rattle.pg_adj.specs.Portions.{IsForeign};
 ghost use Rattle.pg_cells.specs.States.{refreshes_of};

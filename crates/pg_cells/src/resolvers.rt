@@ -1,3 +1,5 @@
+//! Resolvers: what a cell holds at first, and what a further value makes of it.
+
 ghost use Rattle.std.specs.Prelude.{◌≡◌, ℕ, min, max};
 
 use pg_base::Vertex;

@@ -1,3 +1,5 @@
+//! The sending of a property map: one body a call.
+
 ghost use Rattle.std.specs.Prelude.{◌≡◌, ◌⊎◌, ◌↔◌, true, false, ℕ, All, None, IfSome, length};
 ghost use Rattle.pg_adj.specs.Portions.{IsForeign};
 ghost use Rattle.pg_cells.specs.States.{NothingLeft};
@@ -18,8 +20,9 @@ use pg_group::{Outbox, Worked};
 
 impl<R: Resolver> Cells<R> {
     /// Sends one body, if one is left to be sent in this phase: a put that is owed; in phase Closing the value of a
-    /// noted ghost; in phase Refreshing the value of an own cell to one of its holders. More comes where one was sent, to
-    /// another rank, Idle where none is left, and Blocked where the lane was full; the map stays then.
+    /// noted ghost; in phase Refreshing the value of an own cell to one of its holders. `More`: one was sent, to
+    /// another rank. `Idle`: none is left. `Blocked`: the lane to that rank was full. With the last two the map stays
+    /// as it was.
     pub fn work<O: Outbox<CellBody>>(&mut self, out: &mut O) -> Worked
         requires own { O.own out.old ≡ self.old.part.value.rank }
         requires size { O.size out.old ≡ self.old.part.value.ranks }

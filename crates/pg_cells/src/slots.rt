@@ -1,3 +1,5 @@
+//! The slot of each ghost, found by a binary search.
+
 ghost use Rattle.std.specs.Prelude.{◌≡◌, ◌≢◌, ℕ, ◌^◌, ◌<◌, AllPairs, IfOk, IfSome, None, Some, length, slice_get};
 ghost use Rattle.pg_adj.specs.declared.arcs.Ghost.{Ghost};
 

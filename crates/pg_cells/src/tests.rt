@@ -169,8 +169,8 @@ impl<R: Resolver, M: Mailbox<CellBody>> Site<R, M> {
     }
 }
 
-// One round of all ranks: each sends all that is left, handles what the others sent, and ends the round. Answers whether
-// a synchronize has ended with it.
+// One round of all ranks: each sends all that is left, handles what the others sent, and ends the round. Answers
+// whether a synchronize has ended with it.
 fn round<R: Resolver, M: Mailbox<CellBody>>(
     sites: &mut [Site<R, M>],
 ) -> Result<bool, &'static str> {
@@ -391,7 +391,8 @@ fn two_ranks_hold_what_the_flags_say_after_a_synchronize(rt: HostRuntime) -> Res
 #[test]
 fn three_ranks_hold_what_each_permitted_combination_says(rt: HostRuntime) -> Result<(), Fail> {
     let cases = [
-        // (forward, backward, flush, reset, clear), then vertex 1 at its owner, and at the two ranks that have it as a ghost
+        // (forward, backward, flush, reset, clear), then vertex 1 at its owner, and at the two ranks that have it as a
+        // ghost
         (
             [false, false, false, false, false],
             Some(6),

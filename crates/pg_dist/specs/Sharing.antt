@@ -4,8 +4,8 @@
 use Rattle.std.specs.Prelude.{◌≡◌, ℕ, ◌<◌, ◌≤◌}
 use Rattle.pg_base.specs.declared.TheConstants.{MAX_VERTICES}
 
--- How many vertices and ranks there are; the owner of each vertex, and its place among the owner's vertices; how many vertices
--- each rank owns, and the vertex of a rank at a place.
+-- How many vertices and ranks there are; the owner of each vertex, and its place among the owner's vertices; how many
+-- vertices each rank owns, and the vertex of a rank at a place.
 pub record Sharing : Type 0 where
   pub n : ℕ
   pub ranks : ℕ

@@ -1,3 +1,5 @@
+//! The distribution in blocks, which needs no table.
+
 ghost use Rattle.std.specs.Prelude.{◌≡◌, ℕ, ◌+◌, ◌*◌, ◌/◌, ◌%◌, ◌<◌, ◌≤◌};
 ghost use Rattle.pg_base.specs.declared.TheConstants.{MAX_VERTICES};
 ghost use Rattle.pg_dist.specs.Blocks.{count_of, first_of};
@@ -22,7 +24,7 @@ pub struct Block {
 impl Block {
     ghost use Rattle.pg_dist.specs.Blocks.{in_long};
 
-    /// The blocks of `n` vertices over these ranks. Takes no memory.
+    /// The blocks of `n` vertices over these ranks. Allocates nothing.
     pub fn new(n: u32, ranks: Ranks) -> Block
         requires { n ≤ MAX_VERTICES }
         ensures vertices { (⟦<Block as Distribution>⟧.sharing result).n ≡ n }

@@ -1,3 +1,5 @@
+//! The distribution that a list of owners gives, as a partition file has it.
+
 ghost use Rattle.std.specs.Prelude.{◌≡◌, ℕ, ◌+◌, ◌-◌, ◌<◌, ◌≤◌, IfOk, All, length, slice_index, vec_len};
 ghost use Rattle.pg_base.specs.declared.TheConstants.{MAX_VERTICES};
 ghost use Rattle.pg_dist.specs.Seats.{owners_of, places_of};
@@ -26,7 +28,7 @@ pub struct Listed {
 
 impl Listed {
     /// The distribution in which entry v - 1 of `parts` is the number of the rank that owns vertex v. Takes
-    /// memory and time linear in the list and the ranks. `Err` is want of memory.
+    /// memory and time linear in the list and the ranks. `OutOfMemory` comes only where an allocation is refused.
     pub fn new(alloc: Global, parts: Vec<u32>, ranks: Ranks) -> Result<Listed, OutOfMemory>
         requires are_ranks { All (λ owner. owner < ranks) parts.items }
         requires few { vec_len parts ≤ MAX_VERTICES }

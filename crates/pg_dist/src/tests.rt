@@ -1,3 +1,5 @@
+//! Small distributions in blocks and by a list, and the way from a vertex to its place and back.
+
 ghost use Rattle.std.specs.Prelude.{◌≡◌, ◌≤◌};
 
 use crate::{Block, Distribution, Listed};

@@ -6,7 +6,7 @@ ghost use Rattle.pg_simd.specs.Kernels.{lesser};
 use crate::LANES;
 use std::simd::prelude::*;
 
-/// Makes each entry of `into` the lesser of it and the entry of `from` in its place. Both have one length.
+/// Makes each entry of `into` the lesser of it and the entry of `from` in its place. Both lists have the same length.
 pub fn min_into(into: &mut [u64], from: &[u64])
     requires { length into.old ≡ length from.now }
     ensures { into.new ≡ lesser into.old from.now }

@@ -1,6 +1,6 @@
 //! Kernels over lists of numbers, eight entries at a time in the lanes of `std::simd`. Each answers what a plain loop
-//! over the list does, at every length, and takes no memory. Their time is proportional to the entries that they read.
-//! `specs/Kernels.antt` says what they answer.
+//! over the list does, at every length, and allocates nothing. Their time is proportional to the entries that they
+//! read. `specs/Kernels.antt` says what they answer.
 #![tactic(auto)]
 
 mod free;
