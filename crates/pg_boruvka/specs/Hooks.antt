@@ -1,4 +1,5 @@
--- The hooks of a phase, and the labels after it. Each label whose winner leads from it hooks to the label at the edge's other end.
+-- The hooks of a phase, and the labels after it. Each label whose winner leads from it hooks to the label at the edge's
+-- other end.
 -- Source: Borůvka (1926); Cormen, Leiserson, Rivest and Stein, Introduction to Algorithms, chapter 23, problem 23-4.
 use Rattle.std.specs.Prelude.{◌≡◌, ◌≢◌, ◌==◌, ◌&&◌, not, ℕ, zero, suc, ◌+◌, ◌*◌, ◌<◌, Bool, Option, Some, None, List, [], ◌∷◌, ◌++◌, length, nat_lt, slice_index_or, if◌then◌else◌, All, Contains}
 use Rattle.pg_forest.specs.Phases.{point, steps}
@@ -51,7 +52,8 @@ abbrev pub hooked_to : List Hook → ℕ → ℕ
 hooked_to [] l = l
 hooked_to (h ∷ hooks) l = if h.source == l then h.target else hooked_to hooks l
 
--- The labels in a phase. At first each vertex is its own label. After a phase each label moves so far along the pointers.
+-- The labels in a phase. At first each vertex is its own label. After a phase each label moves so far along the
+-- pointers.
 abbrev pub label_in : ℕ → Part → List (List (Body Message)) → ℕ → (ℕ → ℕ)
 label_in far part handled zero v = v
 label_in far part handled (suc p) v = steps (hooked_to (hooks_of part handled (label_in far part handled p) p)) far (label_in far part handled p v)

@@ -15,8 +15,8 @@ use Rattle.pg_boruvka.specs.Parts.{Part}
 use Rattle.pg_boruvka.specs.Winners.{own_key, winner, first_label, labels_of, IsPieceOf}
 use Rattle.pg_boruvka.specs.Hooks.{own_hooks, label_in, phase_hooks, AreSoundBefore}
 
--- What a rank shows: its present round and the vote that it cast in it, whether it has ended, its label of each vertex, and the
--- indices of the edges that it chose.
+-- What a rank shows: its present round and the vote that it cast in it, whether it has ended, its label of each vertex,
+-- and the indices of the edges that it chose.
 pub record State : Type 0 where
   pub round : ℕ
   pub cast : Option Vote
@@ -24,8 +24,8 @@ pub record State : Type 0 where
   pub label : ℕ → ℕ
   pub edges : List ℕ
 
--- As many lists as ranks; as many marks handled as rounds have ended, and as many sent as votes were cast, all of zeros; no item
--- is sent in a round to come.
+-- As many lists as ranks; as many marks handled as rounds have ended, and as many sent as votes were cast, all of
+-- zeros; no item is sent in a round to come.
 pub record AreCounted (part : Part) (handled sent : List (List (Body Message))) (s : State) : Type 0 where
   pub from_each : length handled ≡ part.ranks
   pub to_each : length sent ≡ part.ranks
@@ -47,8 +47,8 @@ pub record IsHookOf (hooks : List Hook) (m : Message) : Type 0 where
   pub among : Contains hooks hook
   pub is : m ≡ Hooked hook
 
--- In the first round of a phase each reducer is sent the best keys of its labels, in the second each rank is sent the winners of
--- the sender's labels, and in the third the hooks that the sender found.
+-- In the first round of a phase each reducer is sent the best keys of its labels, in the second each rank is sent the
+-- winners of the sender's labels, and in the third the hooks that the sender found.
 abbrev pub IsBestKeys : ℕ → Part → List (List (Body Message)) → ℕ → ℕ → Message → Type 0
 IsBestKeys far part handled p to m = IsPieceOf (own_key part (label_in far part handled p)) (first_label part to) (labels_of part to) m
 
@@ -75,8 +75,8 @@ pub record IsPresent (p round : ℕ) : Type 0 where
 abbrev pub NoWinner : ℕ → Part → List (List (Body Message)) → ℕ → Type 0
 NoWinner far part handled p = (l : ℕ) → IsVertex part.n l → winner part handled (label_in far part handled p) p l ≡ NO_KEY
 
--- What is sent in the three rounds of a phase. The labels are those of the present phase, and the edges those of the hooks before
--- it. A rank ends exactly with the second round of a phase without winners.
+-- What is sent in the three rounds of a phase. The labels are those of the present phase, and the edges those of the
+-- hooks before it. A rank ends exactly with the second round of a phase without winners.
 pub record IsPhase (far : ℕ) (part : Part) (handled sent : List (List (Body Message))) (s : State) (p : ℕ) : Type 0 where
   pub up : (to : ℕ) → IsOther part.rank part.ranks to → AreSent s (3 * p) (IsBestKeys far part handled p to) (list_at sent to)
   pub down : (to : ℕ) → IsOther part.rank part.ranks to → AreSent s (3 * p + 1) (IsWinners far part handled p) (list_at sent to)

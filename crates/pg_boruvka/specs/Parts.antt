@@ -1,4 +1,5 @@
--- What each rank has of a graph whose vertices are divided: the arcs that leave its own, with the keys and indices of their edges.
+-- What each rank has of a graph whose vertices are divided: the arcs that leave its own, with the keys and indices of
+-- their edges.
 use Rattle.std.specs.Prelude.{◌≡◌, ◌⊎◌, ℕ, ◌<◌, List, length, slice_index_or, All, Contains}
 use Rattle.pg_base.specs.declared.edges.Edge.{Edge}
 use Rattle.pg_base.specs.Graph.{Graph}

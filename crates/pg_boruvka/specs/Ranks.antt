@@ -27,8 +27,8 @@ pub record HasChosenOver (ranks rank : ℕ) (sent taken : PairLists Message) (st
   pub handled_is : (from : ℕ) → IsOther rank ranks from → list_at handled from ≡ taken from rank
   pub sent_is : (to : ℕ) → IsOther rank ranks to → list_at promised to ≡ sent rank to
 
--- Programs over the parts of a graph that is divided by a distribution. All that was sent was taken, and each program has ended
--- and kept its promise. Weights are numbers of 32 bits.
+-- Programs over the parts of a graph that is divided by a distribution. All that was sent was taken, and each program
+-- has ended and kept its promise. Weights are numbers of 32 bits.
 pub record IsDenseRun (s : Sharing) (g : Graph) (parts : List Portion) (starts programs : ℕ → Dense) (sent taken : PairLists Message) : Type 0 where
   pub laws : IsSharing s
   pub graph : IsGraph g

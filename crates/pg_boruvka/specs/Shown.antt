@@ -53,7 +53,8 @@ pub record AreSentSoFar (sent : List (List (Body Message))) (v : View) : Type 0 
   pub due : (to : ℕ) (m : Message) → IsOther v.part.rank v.part.ranks to → Contains (items_of_round (round_of v) (list_at sent to)) m → IsPassedMessage v to m
   pub all : (to : ℕ) (m : Message) → IsOther v.part.rank v.part.ranks to → IsPassedMessage v to m → Contains (items_of_round (round_of v) (list_at sent to)) m
 
--- Its arcs are those of the part whose ends differ in label, between these labels, and its keys are those of the least that leave a label.
+-- Its arcs are those of the part whose ends differ in label, between these labels, and its keys are those of the least
+-- that leave a label.
 pub record IsGathered (v : View) : Type 0 where
   pub arcs : v.known.arcs ≡ map (relabelled (label_of v)) (filter (is_apart (label_of v)) v.part.arcs)
   pub leasts : AreLeasts v.part.arcs (label_of v) v.known.keys v.known.across
@@ -90,11 +91,11 @@ pub record IsNewDense (d : Dense) : Type 0 where
   pub view : IsNewView (view_of d)
   pub idle : d.idle ≡ false
 
--- What every call keeps, over all that was handled and sent: first the law of Borůvka's method, with labels that move `far` steps.
--- The rest isn't seen from outside, but the next call needs it to keep the law. The arcs and keys are those of the labels. Nothing was
--- handled from the rank itself, and a rank has a vote cast when it ends. Until it ends, the winners are those of the keys that were
--- handled, and in the third round of a phase the noted hooks are those that the phase has so far. While no vote is cast, just the
--- messages that were passed were sent in this round.
+-- What every call keeps, over all that was handled and sent: first the law of Borůvka's method, with labels that move
+-- `far` steps. The rest isn't seen from outside, but the next call needs it to keep the law. The arcs and keys are
+-- those of the labels. Nothing was handled from the rank itself, and a rank has a vote cast when it ends. Until it
+-- ends, the winners are those of the keys that were handled, and in the third round of a phase the noted hooks are
+-- those that the phase has so far. While no vote is cast, just the messages that were passed were sent in this round.
 pub record HasChosen (far : ℕ) (handled sent : List (List (Body Message))) (v : View) : Type 0 where
   pub local : LocalDense far v.part handled sent (state_of v)
   pub gathered : IsGathered v
@@ -104,7 +105,8 @@ pub record HasChosen (far : ℕ) (handled sent : List (List (Body Message))) (v 
   pub hooks : v.ended ≡ false → v.stage ≡ stage.Hook → AreNotedOf (hooks_of v.part handled (label_of v) v.phase) v
   pub sent_so_far : v.cast ≡ None → AreSentSoFar sent v
 
--- The program still has the part with which it started, and keeps the law over it, with labels that move 1,048,576 steps.
+-- The program still has the part with which it started, and keeps the law over it, with labels that move 1,048,576
+-- steps.
 pub record KeepsDense (start : Dense) (handled sent : List (List (Body Message))) (d : Dense) : Type 0 where
   pub part : part_in d ≡ part_in start
   pub chosen : HasChosen MAX_VERTICES handled sent (view_of d)

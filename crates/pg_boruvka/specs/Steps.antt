@@ -58,7 +58,8 @@ pub record ArePhase (far : ℕ) (part : Part) (handled : List (List (Body Messag
 abbrev pub in_next_round : State → (ℕ → ℕ) → List ℕ → State
 in_next_round s label edges = record { round = s.round + 1; cast = None; ended = false; label = label; edges = edges }
 
--- To go on to the next round, but after the second round of a phase without winners, with the labels and the edges of that round's phase.
+-- To go on to the next round, but after the second round of a phase without winners, with the labels and the edges of
+-- that round's phase.
 abbrev pub GoingOnKeeps : Type 0
 GoingOnKeeps = (far : ℕ) (part : Part) (handled sent : List (List (Body Message))) (s : State) (votes : List Vote) (vote : Vote) (label : ℕ → ℕ) (edges : List ℕ)
     → length votes ≡ part.ranks → s.cast ≡ Some vote → s.ended ≡ false

@@ -22,8 +22,8 @@ pub record HasEndedOver (far ranks rank : ℕ) (sent taken : PairLists Message) 
   pub handled_is : (from : ℕ) → IsOther rank ranks from → list_at handled from ≡ taken from rank
   pub sent_is : (to : ℕ) → IsOther rank ranks to → list_at promised to ≡ sent rank to
 
--- A whole run over a graph that is divided among the ranks, all of which have ended. Weights are numbers of 32 bits. Labels move
--- along their pointers as many steps as there are labels, or more.
+-- A whole run over a graph that is divided among the ranks, all of which have ended. Weights are numbers of 32 bits.
+-- Labels move along their pointers as many steps as there are labels, or more.
 pub record IsRun (far : ℕ) (g : Graph) (ranks : ℕ) (parts : ℕ → Part) (states : ℕ → State) (sent taken : PairLists Message) : Type 0 where
   pub graph : IsGraph g
   pub weights : All (λ e. e.w ≤ MAX_WEIGHT) g.edges

@@ -1,5 +1,5 @@
--- The winner of a label: the least key of an edge that leaves it. Each rank has the keys of its own arcs; the label's reducer
--- takes the least of all ranks' keys, and tells it to every rank.
+-- The winner of a label: the least key of an edge that leaves it. Each rank has the keys of its own arcs; the label's
+-- reducer takes the least of all ranks' keys, and sends it to every rank.
 -- Source: Borůvka (1926); Dehne and Götz, Practical parallel algorithms for minimum spanning trees (1998).
 use Rattle.std.specs.Prelude.{◌≡◌, ◌≢◌, ◌==◌, ◌&&◌, not, ℕ, ◌+◌, ◌-◌, ◌*◌, ◌/◌, ◌%◌, ◌<◌, Bool, Option, Some, None, List, [], ◌∷◌, ◌++◌, min, nat_lt, filter, map, slice_index_or, if◌then◌else◌}
 use Rattle.pg_dist.specs.Blocks.{count_of, first_of, owner_of}

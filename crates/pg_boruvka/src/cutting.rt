@@ -11,7 +11,8 @@ use crate::{NO_KEY, Piece};
 /// How many keys a piece has.
 pub(crate) const PIECE: u32 = 8;
 
-/// Of the labels from `first` on and before `past`, cut into pieces, the next piece with a key, from the number `at` on.
+/// Of the labels from `first` on and before `past`, cut into pieces, the next piece with a key, from the number `at`
+/// on.
 pub(crate) fn next_piece(keys: &[u64], first: u32, past: u32, at: u32) -> Option<(u32, Piece)>
     requires order { first ≤ past }
     requires within { past ≤ length keys.now }

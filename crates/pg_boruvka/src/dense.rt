@@ -1,4 +1,4 @@
-//! A rank of Borůvka's method.
+//! What a rank of Borůvka's method keeps, and how it begins.
 ghost use Rattle.std.specs.Prelude.{◌≡◌, ℕ, ◌+◌, ◌<◌, ◌≤◌, true, All, IfOk, length};
 ghost use Rattle.pg_base.specs.declared.TheConstants.{MAX_EDGES, MAX_VERTICES};
 ghost use Rattle.pg_adj.specs.Portions.{IsPortion};
@@ -15,7 +15,8 @@ use pg_group::Vote;
 use std::alloc::Global;
 use std::snapshot::Snapshot;
 
-/// A round of a phase, by what is sent in it: best keys to the reducers of their labels, winners to every rank, and hooks.
+/// A round of a phase, by what is sent in it: best keys to the reducers of their labels, winners to every rank, and
+/// hooks.
 #[derive(Clone, Copy, Debug, PartialEq, Eq)]
 pub(crate) enum Stage {
     Up,
@@ -23,11 +24,12 @@ pub(crate) enum Stage {
     Hook,
 }
 
-/// The rank program that chooses the least spanning forest of a divided graph. Every rank keeps a label of every vertex.
-/// In each phase every label is joined to another by the least edge that leaves it, and the chosen edges are the same on all ranks.
+/// The rank program that chooses the least spanning forest of a divided graph. Every rank keeps a label of every
+/// vertex. In each phase every label that an edge leaves is joined to another by the least such edge, and the chosen
+/// edges are the same on all ranks.
 ///
-/// Source: Borůvka, O jistém problému minimálním (1926); Dehne and Götz, Practical parallel algorithms for minimum spanning
-/// trees (1998): dense Borůvka, with labels that every rank keeps.
+/// Source: Borůvka, O jistém problému minimálním (1926); Dehne and Götz, Practical parallel algorithms for minimum
+/// spanning trees (1998): dense Borůvka, with labels that every rank keeps.
 #[derive(Drop)]
 pub struct Dense {
     pub(crate) part: Snapshot<Part>,
@@ -58,8 +60,9 @@ impl Dense {
     ghost use Rattle.pg_boruvka.specs.Known.{part_in, edges_in};
     ghost use Rattle.pg_boruvka.specs.Shown.{IsNewDense};
 
-    /// The program of one part of a graph with so many edges. Each vertex is its own label, and no edge is chosen. Takes 16
-    /// bytes for each arc, 32 for each vertex of the graph, and one for each edge. `OutOfMemory` comes only where memory is wanting.
+    /// The program of one part of a graph with this many edges. Each vertex is its own label, and no edge is chosen.
+    /// Takes 16 bytes for each arc, 32 for each vertex of the graph, and one for each edge. `OutOfMemory` comes only
+    /// where an allocation is refused.
     pub fn new(alloc: Global, part: Part, edges: u32) -> Result<Dense, OutOfMemory>
         requires few { edges ≤ MAX_EDGES }
         requires each { All (λ a. a.edge < edges) (part_of edges part).arcs }
@@ -91,8 +94,8 @@ impl Dense {
         Ok(dense)
     }
 
-    /// The indices of the edges that were chosen in the phases that have ended, ascending. Takes 4 bytes for each.
-    /// `OutOfMemory` comes only where memory is wanting.
+    /// The indices, from 0, of the edges that were chosen in the phases that have ended, ascending. Takes 4 bytes for
+    /// each. `OutOfMemory` comes only where an allocation is refused.
     pub fn edges(&self, alloc: Global) -> Result<Vec<u32>, OutOfMemory>
         ensures { IfOk result (λ edges. edges.items ≡ edges_in self.now) }
     {

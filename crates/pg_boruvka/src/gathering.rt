@@ -6,8 +6,9 @@ ghost use Rattle.pg_boruvka.specs.Arcs.{locals, relabelled, is_apart, IsInTables
 use crate::NO_KEY;
 use crate::arcs::DenseArc;
 
-/// Moves the ends of each arc along the pointers of labels. Keeps the arcs whose ends differ then, in their order, and notes for
-/// each label the least key of an arc from it to another label, and that label. A label without such an arc has no key.
+/// Moves the ends of each arc along the pointers of labels. Keeps the arcs whose ends differ then, in their order, and
+/// notes for each label the least key of an arc from it to another label, and that label. A label without such an arc
+/// has no key.
 pub(crate) fn gather(
     arcs: &mut Vec<DenseArc>,
     pointers: &[u32],

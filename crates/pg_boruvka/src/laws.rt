@@ -6,22 +6,23 @@ ghost use Rattle.pg_boruvka.specs.Portions.{DivisionsServe};
 ghost use Rattle.pg_boruvka.specs.Steps.{OpeningKeeps, HandlingKeeps, SendingKeeps, VotingKeeps, GoingOnKeeps, EndingKeeps};
 ghost use Rattle.pg_boruvka.specs.Example.{path, part_of, state, lists};
 
-/// Where all that was sent was handled, by ranks among which a graph is divided and which have all ended, the edges of each
-/// rank are exactly the least spanning forest, in order. So they span, and nothing that spans weighs less.
+/// Where all that was sent was handled, by ranks among which a graph is divided and which have all ended, the edges of
+/// each rank are exactly the least spanning forest, in order. So they span, and nothing that spans weighs less.
 ///
-/// Source: Borůvka, O jistém problému minimálním (1926), over the messages of Dehne and Götz, Practical parallel algorithms
-/// for minimum spanning trees (1998).
+/// Source: Borůvka, O jistém problému minimálním (1926), over the messages of Dehne and Götz, Practical parallel
+/// algorithms for minimum spanning trees (1998).
 pub fn whole_runs()
     ensures forest { WholeIsForest }
     ensures least { WholeIsLeast }
 {}
 
-/// Where the programs of all ranks of a group are [`crate::Dense`] over the parts of a graph that is divided by a distribution, each
-/// has kept its promise from its opening state over the lists of a whole book, and all have ended, the edges of each program
-/// are exactly the least spanning forest, in order. So they span, and nothing that spans weighs less.
+/// Where the programs of all ranks of a group are [`crate::Dense`] over the parts of a graph that is divided by a
+/// distribution, each has kept its promise from its opening state over the lists of a whole book, and all have ended,
+/// the edges of each program are exactly the least spanning forest, in order. So they span, and nothing that spans
+/// weighs less.
 ///
-/// Source: Borůvka, O jistém problému minimálním (1926); Dehne and Götz, Practical parallel algorithms for minimum spanning
-/// trees (1998).
+/// Source: Borůvka, O jistém problému minimálním (1926); Dehne and Götz, Practical parallel algorithms for minimum
+/// spanning trees (1998).
 pub fn whole_dense()
     ensures forest { DenseIsForest }
     ensures least { DenseIsLeast }

@@ -1,7 +1,8 @@
-//! The law of Borůvka's method over ranks: where each rank keeps a local relation between what it handled and sent, all of
-//! them end with exactly the least spanning forest.
-//! Source: Borůvka, O jistém problému minimálním (1926), in the translation of Nešetřil, Milková and Nešetřilová (2001); Dehne
-//! and Götz, Practical parallel algorithms for minimum spanning trees (1998), for labels that every rank keeps of all vertices.
+//! The law of Borůvka's method over ranks: where each rank keeps a local relation between what it handled and sent, all
+//! of them end with exactly the least spanning forest.
+//! Source: Borůvka, O jistém problému minimálním (1926), in the translation of Nešetřil, Milková and Nešetřilová
+//! (2001); Dehne and Götz, Practical parallel algorithms for minimum spanning trees (1998), for labels that every rank
+//! keeps of all vertices.
 #![tactic(auto)]
 
 mod arcs;

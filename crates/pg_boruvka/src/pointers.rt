@@ -8,7 +8,8 @@ ghost use Rattle.pg_boruvka.specs.Pointers.{AreShortened, AreReached, AreAtEnds,
 // So often pointers are doubled: 1,048,576 is two to this power.
 const DOUBLINGS: u32 = 20;
 
-/// Moves each label 1,048,576 steps along the pointers of hooks, if these come to an end. The targets change to where they lead.
+/// Moves each label 1,048,576 steps along the pointers of hooks, if these come to an end. The targets change to where
+/// they lead.
 pub(crate) fn move_to_ends(labels: &mut [u32], targets: &mut [u32])
     requires few { length targets.old < 2 ^ 32 }
     requires targets { All (λ l. l < length targets.old) targets.old }

@@ -1,4 +1,4 @@
-//! A count of phases that has no end and takes a byte.
+//! A count of phases without a limit, in one byte: only contracts see the number.
 
 ghost use Rattle.std.specs.Prelude.{◌≡◌, ◌+◌};
 ghost use Rattle.pg_boruvka.specs.Phasing.{count_of};

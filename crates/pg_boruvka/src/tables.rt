@@ -86,8 +86,8 @@ impl Tables {
         })
     }
 
-    /// Moves the ends of the arcs to where the hooks' targets lead, and finds the best keys, which are the first winners of the
-    /// labels from `first` on and before `past`. Unhooks all labels.
+    /// Moves the ends of the arcs to where the hooks' targets lead, and finds the best keys, which are the first
+    /// winners of the labels from `first` on and before `past`. Unhooks all labels.
     pub(crate) fn begin_phase(&mut self, first: u32, past: u32)
         requires order { first ≤ past }
         requires within { past ≤ length self.old.labels.items }
@@ -104,7 +104,8 @@ impl Tables {
         self.begin_winners(first, past);
     }
 
-    // Moves the ends of the arcs to where the hooks' targets lead, keeps the arcs whose ends differ then, and finds the best keys.
+    // Moves the ends of the arcs to where the hooks' targets lead, keeps the arcs whose ends differ then, and finds the
+    // best keys.
     fn gather_arcs(&mut self)
         ensures kept { locals self.new.arcs.items
             ≡ map (relabelled (slice_index self.old.hooks.targets.items)) (filter (is_apart (slice_index self.old.hooks.targets.items)) (locals self.old.arcs.items)) }
@@ -172,7 +173,8 @@ impl Tables {
         self.hooks.note_own(&self.keys, &self.across, &self.winners);
     }
 
-    /// Chooses the edges of the hooks, and moves the labels along their pointers. The hooks' targets change to where they lead.
+    /// Chooses the edges of the hooks, and moves the labels along their pointers. The hooks' targets change to where
+    /// they lead.
     pub(crate) fn end_phase(&mut self)
         ensures marked { AreMarked self.old.hooks.edges.items self.old.chosen.items self.new.chosen.items }
         ensures same_edges { length self.new.chosen.items ≡ length self.old.chosen.items }

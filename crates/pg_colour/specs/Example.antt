@@ -1,7 +1,7 @@
--- Two ranks own one vertex each, with an edge between them. Both take colour 0; the greater end's rank finds the clash and takes 1.
--- And the same edge on one rank, which colours both ends in one pass.
--- Source: after Boman, Bozdağ, Catalyurek, Gebremedhin and Manne, A scalable parallel graph coloring algorithm for distributed
--- memory computers (Euro-Par 2005).
+-- Two ranks own one vertex each, with an edge between them. Both take colour 0; the greater end's rank finds the clash
+-- and takes 1. And the same edge on one rank, which colours both ends in one pass.
+-- Source: after Boman, Bozdağ, Catalyurek, Gebremedhin and Manne, A scalable parallel graph coloring algorithm for
+-- distributed memory computers (Euro-Par 2005).
 use Rattle.std.specs.Prelude.{ℕ, ◌+◌, ◌-◌, true, List, [], ◌∷◌, Some}
 use Rattle.pg_group.specs.declared.messages.Body.{Body}
 use Rattle.pg_group.specs.declared.messages.Body.TheVariants.{Item, Mark}
@@ -17,7 +17,8 @@ use Rattle.pg_colour.specs.LocalColour.{State}
 abbrev pub vote : ℕ → Vote
 vote a = record { a = a; b = 0; c = 0; d = 0 }
 
--- What rank r sends. In the second pass rank 0 colours no vertex and rank 1 one, and from then on rank r's vertex has the colour r.
+-- What rank r sends. In the second pass rank 0 colours no vertex and rank 1 one, and from then on rank r's vertex has
+-- the colour r.
 abbrev pub lane_of : ℕ → List (Body CellBody)
 lane_of r = Mark (vote 1) ∷ Item (Refresh 0 0) ∷ Mark (vote 1) ∷ Mark (vote r) ∷ Item (Refresh 0 r) ∷ Mark (vote 1) ∷ Mark (vote 0) ∷ []
 

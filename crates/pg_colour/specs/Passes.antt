@@ -1,7 +1,9 @@
--- A pass of one rank: it goes through a list of its own places and gives each the least colour that no neighbour has then. A cell
--- holds a colour, or NO_COLOUR. These are pg_proper's passes, over a part's places and slots in place of vertices.
--- Source: after Boman, Bozdağ, Catalyurek, Gebremedhin and Manne, A scalable parallel graph coloring algorithm for distributed
--- memory computers (Euro-Par 2005). That of two ends of one colour the greater one is coloured again is this project's choice.
+-- A pass of one rank: it goes through a list of its own places and gives each the least colour that no neighbour has
+-- then. A cell holds a colour, or NO_COLOUR. These are pg_proper's passes, over a part's places and slots in place of
+-- vertices.
+-- Source: after Boman, Bozdağ, Catalyurek, Gebremedhin and Manne, A scalable parallel graph coloring algorithm for
+-- distributed memory computers (Euro-Par 2005). That of two ends of one colour the greater one is coloured again is
+-- this project's choice.
 use Rattle.std.specs.Prelude.{◌≡◌, ◌⊎◌, ◌==◌, cond, ℕ, ◌<◌, List, [], ◌∷◌, slice_index, Contains}
 use Rattle.pg_base.specs.Keyed.{row_of}
 use Rattle.pg_adj.specs.declared.arcs.Arc.{Arc}
@@ -47,7 +49,8 @@ Passes part seen [] before after = (place : ℕ) → after place ≡ before plac
 Passes part seen (place ∷ list) before after =
     (c : ℕ) × IsLeastFree part before seen place c × Passes part seen list (with_cell before place c) after
 
--- The vertex at a place has a lesser neighbour of another rank that is seen with the same colour. The lesser end keeps its colour.
+-- The vertex at a place has a lesser neighbour of another rank that is seen with the same colour. The lesser end keeps
+-- its colour.
 pub record IsClash (part : Portion) (own seen : Cells) (place : ℕ) : Type 0 where
   pub arc : Arc
   pub slot : ℕ

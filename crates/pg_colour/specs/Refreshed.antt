@@ -1,4 +1,4 @@
--- What ranks tell each other in the odd rounds: each own cell goes to every holder of its vertex.
+-- What ranks send each other in the odd rounds: each own cell goes to every holder of its vertex.
 -- Source: ghost cells after Gregor and Lumsdaine, Lifting Sequential Graph Algorithms for Distributed-Memory Parallel
 -- Computation (OOPSLA 2005).
 use Rattle.std.specs.Prelude.{◌≡◌, ◌==◌, cond, ℕ, zero, suc, ◌+◌, ◌*◌, List, [], ◌∷◌, Some, map, filter, slice_get, slice_index_or, All, Contains}
@@ -43,7 +43,8 @@ pub record IsRefreshFrom (part : Portion) (from : ℕ) (m : CellBody) : Type 0 w
   pub home : ghost_there.home.0 ≡ from
   pub is : m ≡ Refresh slot value
 
--- No item was handled in an even round, and each that was handled in an odd round is a refresh from the home of its ghost.
+-- No item was handled in an even round, and each that was handled in an odd round is a refresh from the home of its
+-- ghost.
 pub record AreSound (part : Portion) (handled : List (List (Body CellBody))) : Type 0 where
   pub even : (from j : ℕ) → IsOther part.rank part.ranks from → items_of_round (2 * j) (list_at handled from) ≡ []
   pub odd : (from j : ℕ) → IsOther part.rank part.ranks from → All (IsRefreshFrom part from) (items_of_round (2 * j + 1) (list_at handled from))

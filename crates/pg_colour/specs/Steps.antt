@@ -1,6 +1,6 @@
 -- By which steps a rank keeps its promise while it runs: what it shows before and after each.
--- Source: after Boman, Bozdağ, Catalyurek, Gebremedhin and Manne, A scalable parallel graph coloring algorithm for distributed
--- memory computers (Euro-Par 2005).
+-- Source: after Boman, Bozdağ, Catalyurek, Gebremedhin and Manne, A scalable parallel graph coloring algorithm for
+-- distributed memory computers (Euro-Par 2005).
 use Rattle.std.specs.Prelude.{◌≡◌, ◌↔◌, ℕ, ◌+◌, ◌*◌, ◌<◌, true, false, Some, None, List, [], ◌∷◌, length, slice_get, AllPairs, Contains}
 use Rattle.std.specs.List.{range_with_len}
 use Rattle.pg_group.specs.declared.messages.Body.{Body}
@@ -31,7 +31,8 @@ pub record IsOpening (part : Portion) (s : State) : Type 0 where
 abbrev pub OpeningKeeps : Type 0
 OpeningKeeps = (part : Portion) (s : State) → IsOpening part s → LocalColour part (nothing part.ranks) (nothing part.ranks) s
 
--- A refresh from its home replaces a ghost's cell, and no other changes. What another message changes of the cells is left open.
+-- A refresh from its home replaces a ghost's cell, and no other changes. What another message changes of the cells is
+-- left open.
 pub record HasHandled (part : Portion) (from : ℕ) (m : CellBody) (s t : State) : Type 0 where
   pub round : t.round ≡ s.round
   pub cast : t.cast ≡ s.cast
@@ -101,7 +102,8 @@ pub record AreClashes (part : Portion) (s : State) (list : List ℕ) : Type 0 wh
   pub ascending : AllPairs (λ k l. k < l) list
   pub clash : (place : ℕ) → Contains list place ↔ ((place < length part.vertices) × IsClash part s.own s.seen place)
 
--- A further round begins. After a pass that was not the last the ghosts are refreshed; after that the clashes are the list of the next pass.
+-- A further round begins. After a pass that was not the last the ghosts are refreshed; after that the clashes are the
+-- list of the next pass.
 pub record HasGoneOn (part : Portion) (votes : List Vote) (s t : State) : Type 0 where
   pub running : s.ended ≡ false
   pub each : length votes ≡ part.ranks

@@ -1,6 +1,6 @@
 -- A whole run of colouring on all ranks over the parts of a divided graph, and what its colours are.
--- Source: after Boman, Bozdağ, Catalyurek, Gebremedhin and Manne, A scalable parallel graph coloring algorithm for distributed
--- memory computers (Euro-Par 2005).
+-- Source: after Boman, Bozdağ, Catalyurek, Gebremedhin and Manne, A scalable parallel graph coloring algorithm for
+-- distributed memory computers (Euro-Par 2005).
 use Rattle.std.specs.Prelude.{◌≡◌, ◌==◌, cond, ℕ, ◌+◌, ◌*◌, ◌<◌, ◌≤◌, true, List, [], ◌∷◌, Option, Some, None, length, map, slice_get, slice_index}
 use Rattle.pg_base.specs.Graph.{Graph, IsGraph}
 use Rattle.pg_base.specs.Colouring.{IsProper, IsFirstFit}
@@ -56,7 +56,8 @@ abbrev pub WholeIsSound : Type 0
 WholeIsSound = (s : Sharing) (g : Graph) (parts : List Portion) (states : ℕ → State) (sent taken : PairLists CellBody) → IsWholeRun s g parts states sent taken
     → (r : ℕ) (p : Portion) → slice_get parts r ≡ Some p → (kept : HasEndedOver s.ranks r sent taken p (states r)) → AreSound p kept.handled
 
--- In the refreshing round after pass j the home of a ghost sends its holder exactly one refresh of it, with the colour after the pass.
+-- In the refreshing round after pass j the home of a ghost sends its holder exactly one refresh of it, with the colour
+-- after the pass.
 abbrev pub AreFresh : List Portion → (ℕ → History) → PairLists CellBody → ℕ → Type 0
 AreFresh parts histories sent j = (rank slot : ℕ) (p : Portion) (remote : Ghost) → slice_get parts rank ≡ Some p → slice_get p.ghosts slot ≡ Some remote
     → values_for slot (items_of_round (2 * j + 1) (sent remote.home.0 rank)) ≡ (histories remote.home.0).own j remote.place ∷ []
@@ -77,8 +78,8 @@ WholeSeesOwners = (s : Sharing) (g : Graph) (parts : List Portion) (states : ℕ
 abbrev pub colour_in : ℕ → Option ℕ
 colour_in x = cond (x == NO_COLOUR) None (Some x)
 
--- The run of passes has the ranks' vertices, lists and colours, pass by pass, and as many passes as the ranks made. It keeps the
--- rules of colouring by passes, it has ended, and its answer is the owners' colours.
+-- The run of passes has the ranks' vertices, lists and colours, pass by pass, and as many passes as the ranks made. It
+-- keeps the rules of colouring by passes, it has ended, and its answer is the owners' colours.
 pub record IsRunOf (s : Sharing) (g : Graph) (parts : List Portion) (states : ℕ → State) (histories : ℕ → History) (run : Run) (last : ℕ) : Type 0 where
   pub graph : run.graph ≡ g
   pub ranks : run.ranks ≡ s.ranks

@@ -12,7 +12,8 @@ use crate::fitting::seen;
 use pg_adj::{Arc, Part};
 use pg_cells::{Cells, LastWins};
 
-// Whether the arc leads from the place to a lesser vertex of another rank that is seen with the same colour, in this slot.
+// Whether the arc leads from the place to a lesser vertex of another rank that is seen with the same colour, in this
+// slot.
 fn clashes_over(
     part: &Part,
     cells: &Cells<LastWins>,
@@ -51,8 +52,8 @@ fn clashes(part: &Part, cells: &Cells<LastWins>, slots: &[Option<u32>], place: u
     false
 }
 
-/// Leaves in the list the places of the vertices with a lesser neighbour of another rank that is seen with their colour, in
-/// ascending order.
+/// Leaves in the list the places of the vertices with a lesser neighbour of another rank that is seen with their
+/// colour, in ascending order.
 pub(crate) fn list_clashes(
     part: &Part,
     cells: &Cells<LastWins>,

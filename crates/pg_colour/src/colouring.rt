@@ -1,4 +1,4 @@
-//! A rank's colouring.
+//! What a rank keeps while it colours its vertices.
 ghost use Rattle.std.specs.Prelude.{◌≡◌, ◌≢◌, ℕ, ◌<◌, ◌≤◌, ◌^◌, true, false, None, All, is_some, length};
 ghost use Rattle.std.specs.Vec.{vec_capacity};
 ghost use Rattle.pg_cells.specs.Shown.{state_of};
@@ -17,14 +17,15 @@ use pg_adj::Part;
 use pg_cells::{Cells, LastWins};
 use pg_group::Vote;
 
-/// The rank program that colours the vertices of one part of a divided graph, so that no edge joins two of one colour and
-/// each colour is at most its vertex's degree. In an even round, counted from 0, it goes through a list of its vertices in
-/// ascending order and gives each the least colour that no neighbour has then, as far as it sees; the first list has all of
-/// them. In an odd round it tells the other ranks the colours that it has, and after it the list is each own vertex with a
-/// lesser neighbour of another rank that has the same colour. On one rank this is first fit.
+/// The rank program that colours the vertices of one part of a divided graph, so that no edge joins two of one colour
+/// and each colour is at most its vertex's degree. In an even round, counted from 0, it goes through a list of its
+/// vertices in ascending order and gives each the least colour that no neighbour has then, as far as it sees; the first
+/// list has all of them. In an odd round it sends each vertex's colour to the ranks that hold it as a ghost, and after
+/// it the list is each own vertex with a lesser neighbour of another rank that has the same colour. On one rank this is
+/// first fit.
 ///
-/// Source: Boman, Bozdağ, Catalyurek, Gebremedhin and Manne, A scalable parallel graph coloring algorithm for distributed
-/// memory computers (Euro-Par 2005).
+/// Source: Boman, Bozdağ, Catalyurek, Gebremedhin and Manne, A scalable parallel graph coloring algorithm for
+/// distributed memory computers (Euro-Par 2005).
 #[derive(Drop)]
 pub struct Colouring {
     pub(crate) part: Part,

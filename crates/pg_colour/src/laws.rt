@@ -6,12 +6,13 @@ ghost use Rattle.pg_colour.specs.Example.{lists, lone, lone_part, lone_state, no
 ghost use Rattle.pg_colour.specs.Steps.{OpeningKeeps, HandlingKeeps, ColouringKeeps, SendingKeeps, VotingKeeps, GoingOnKeeps, EndingKeeps};
 ghost use Rattle.pg_colour.specs.Whole.{IsWholeRun, WholeEndsTogether, WholeIsSound, WholeIsFresh, WholeSeesOwners, WholeIsRun, WholeIsColoured, WholeIsProper, OneRankIsFirstFit};
 
-/// Where all that was sent was handled, by ranks among which a graph is divided and which have all ended, all ended with the same
-/// round; each rank was sent refreshes alone, which brought each ghost its owner's colour after the pass before; and the owners'
-/// colours are proper, on one rank those of first fit. At the end each ghost is seen with its owner's colour.
+/// Where all that was sent was handled, by ranks among which a graph is divided and which have all ended, all ended
+/// with the same round; each rank was sent refreshes alone, which brought each ghost its owner's colour after the pass
+/// before; and the owners' colours are proper, on one rank those of first fit. At the end each ghost is seen with its
+/// owner's colour.
 ///
-/// Source: Boman, Bozdağ, Catalyurek, Gebremedhin and Manne, A scalable parallel graph coloring algorithm for distributed
-/// memory computers (Euro-Par 2005).
+/// Source: Boman, Bozdağ, Catalyurek, Gebremedhin and Manne, A scalable parallel graph coloring algorithm for
+/// distributed memory computers (Euro-Par 2005).
 pub fn whole_runs()
     ensures together { WholeEndsTogether }
     ensures sound { WholeIsSound }

@@ -14,10 +14,10 @@ use pg_cells::{Cells, Flags, LastWins};
 use std::alloc::{AllocError, Global};
 
 impl Colouring {
-    /// The colouring of one part, in which no vertex has a colour yet. Takes 16 bytes for each own vertex and 4 for each
-    /// vertex from the least own one to the greatest, 48 for each ghost, 12 for each holder of an own vertex, 8 for each arc and
-    /// for each colour up to the greatest degree, and meanwhile 8 for each vertex of the graph. `OutOfMemory` comes only where
-    /// memory is wanting.
+    /// The colouring of one part, in which no vertex has a colour yet. Takes 16 bytes for each own vertex and 4 for
+    /// each vertex from the least own one to the greatest, 48 for each ghost, 12 for each holder of an own vertex, 8
+    /// for each arc and for each colour up to the greatest degree, and meanwhile 8 for each vertex of the graph.
+    /// `OutOfMemory` comes only where an allocation is refused.
     pub fn new(alloc: Global, part: Part) -> Result<Colouring, OutOfMemory>
         ensures new { IfOk result (λ c. IsNewColouring c) }
         ensures part { IfOk result (λ c. part_in c ≡ part) }
@@ -49,8 +49,8 @@ impl Colouring {
         self.part.count()
     }
 
-    /// The colour of the own vertex at the place, from 0; `None` where it has none yet. Once the colouring has ended each
-    /// vertex has one.
+    /// The colour of the own vertex at the place, from 0; `None` where it has none yet. Once the colouring has ended
+    /// each vertex has one.
     pub fn colour(&self, place: u32) -> Option<u32>
         requires { place < length (part_in self.now).vertices }
         ensures none { (result ≡ None) ↔ ((state_of self.now).own place ≡ NO_COLOUR) }

@@ -19,7 +19,7 @@ pub(crate) struct Palette {
 }
 
 impl Palette {
-    /// So many colours.
+    /// A palette of `count` colours.
     pub(crate) fn new(alloc: Global, count: usize) -> Result<Palette, AllocError>
         ensures { IfOk result (λ palette. length palette.stamps.items ≡ count) }
     {
@@ -29,7 +29,7 @@ impl Palette {
         })
     }
 
-    /// Every colour is free.
+    /// Frees every colour.
     pub(crate) fn free_all(&mut self)
         ensures free { (colour : ℕ) → IsMarked self.new.stamps.items self.new.stamp colour → ⊥ }
         ensures count { length self.new.stamps.items ≡ length self.old.stamps.items }
@@ -41,7 +41,7 @@ impl Palette {
         self.stamp += 1;
     }
 
-    /// The colour is taken, if it is one of these.
+    /// Takes the colour, if it is one of these.
     pub(crate) fn take(&mut self, colour: u64)
         ensures taken { (d : ℕ) → IsMarked self.new.stamps.items self.new.stamp d ↔ (((d ≡ colour) × (d < length self.old.stamps.items)) ⊎ IsMarked self.old.stamps.items self.old.stamp d) }
         ensures count { length self.new.stamps.items ≡ length self.old.stamps.items }

@@ -105,8 +105,8 @@ impl Program for Colouring {
         vote
     }
 
-    /// Ends the round with the votes of all ranks, also its own. `Stop` comes exactly with a pass in which no rank had a
-    /// vertex to colour.
+    /// Ends the round with the votes of all ranks, also its own. `Stop` comes exactly with a pass in which no rank had
+    /// a vertex to colour.
     fn round_end(&mut self, votes: &[Vote]) -> Next
         requires running { self.old.ended ≡ false }
         requires each { length votes.now ≡ (part_in self.old).ranks }

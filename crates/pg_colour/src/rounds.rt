@@ -1,4 +1,4 @@
-//! A count of rounds that has no end and takes a byte.
+//! A count of rounds without a limit, in one byte: only contracts see the number.
 ghost use Rattle.std.specs.Prelude.{◌≡◌, ◌+◌};
 ghost use Rattle.pg_colour.specs.Rounds.{count_of};
 

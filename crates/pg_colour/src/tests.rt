@@ -233,8 +233,8 @@ fn sites<K: LaneKind<Envelope<CellBody>>>(
     Ok(sites)
 }
 
-// The work of a round of one or two ranks: each works and handles what the other sent, until nothing is left. Answers how many
-// items were done.
+// The work of a round of one or two ranks: each works and handles what the other sent, until nothing is left. Answers
+// how many items were done.
 fn work_round<M: Mailbox<CellBody>>(sites: &mut [Site<M>]) -> Result<u32, &'static str> {
     let mut done: u32 = 0;
     for _ in 0..100 {

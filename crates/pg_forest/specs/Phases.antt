@@ -1,4 +1,4 @@
--- A phase of Borůvka's method, told by labels: each label hooks its least leaving edge to the label across,
+-- A phase of Borůvka's method, in terms of labels: each label hooks its least leaving edge to the label across,
 -- and labels then move to the ends of these pointers.
 -- Source: Cormen, Leiserson, Rivest and Stein, Introduction to Algorithms, chapter 23, problem 23-4.
 use Rattle.std.specs.Prelude.{◌≡◌, ◌≢◌, ◌⊎◌, ◌↔◌, ◌==◌, ◌&&◌, nat_lt, cond, ℕ, zero, suc, ◌≤◌, true, List, [], length, All, Contains}

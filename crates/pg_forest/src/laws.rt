@@ -1,5 +1,5 @@
-//! What follows from the definitions of forests, walks and Borůvka's phases. No call does anything: each is proved to meet the
-//! laws that its clauses state.
+//! What follows from the definitions of forests, walks and Borůvka's phases. No call does anything: each is proved to
+//! meet the laws that its clauses state.
 
 ghost use Rattle.std.specs.Prelude.{◌≡◌, [], ◌∷◌};
 ghost use Rattle.pg_base.specs.Examples.{path_edges};

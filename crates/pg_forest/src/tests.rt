@@ -1,3 +1,5 @@
+//! The keys of a few edges: the index comes back, and a greater weight gives a greater key.
+
 use crate::{index_of, key_of};
 
 #[test]

@@ -1,6 +1,6 @@
 -- The grid whose edges and weights are drawn.
--- Source: Kernighan and Ritchie, The C Programming Language, section 2.7: the example of a generator, whose numbers of 15
--- bits are the draws.
+-- Source: Kernighan and Ritchie, The C Programming Language, section 2.7: the example of a generator, whose numbers of
+-- 15 bits are the draws.
 use Rattle.std.specs.Prelude.{ℕ, ◌+◌, ◌*◌, ◌/◌, ◌%◌, ◌^◌, ◌≤◌, ◌==◌, nat_lt, if◌then◌else◌, List, [], ◌∷◌, ◌++◌, All}
 use Rattle.std.specs.List.{flat_map, range_with_len}
 use Rattle.pg_base.specs.Graph.{Graph, IsGraph}

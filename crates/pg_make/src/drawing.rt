@@ -1,4 +1,5 @@
-//! The draws, and the edges that they give.
+//! The generator: the numbers that it draws, and the edges that they give.
+//! Source: Kernighan and Ritchie, The C Programming Language, section 2.7.
 
 ghost use Rattle.std.specs.Prelude.{◌≡◌, ℕ, ◌+◌, ◌*◌, ◌%◌, ◌^◌, ◌<◌, ◌≤◌, List, ◌++◌, length, vec_capacity};
 ghost use Rattle.pg_base.specs.declared.TheConstants.{MAX_VERTICES};

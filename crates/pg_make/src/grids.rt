@@ -11,8 +11,8 @@ use pg_base::{EdgeList, OutOfMemory};
 use std::alloc::Global;
 
 /// The grid of `width` columns and `height` rows whose edges and weights are drawn from `seed`. The vertex in column x
-/// and row y, both from 0, is `y * width + x + 1`. Takes time linear in the number of vertices, and memory once, at the
-/// beginning; `Err` comes only for want of it.
+/// and row y, both from 0, is `y * width + x + 1`. Takes time linear in the number of vertices, and allocates once, at
+/// the beginning; `OutOfMemory` comes only where that is refused.
 pub fn grid(alloc: Global, width: u32, height: u32, seed: u32) -> Result<EdgeList, OutOfMemory>
     requires width { 1 ≤ width }
     requires height { 1 ≤ height }

@@ -1,5 +1,5 @@
-//! What the definition says of an example, and what follows from it. No call does anything: each is proved to meet the laws
-//! that its clauses state.
+//! What the definition says of an example, and what follows from it. No call does anything: each is proved to meet the
+//! laws that its clauses state.
 
 ghost use Rattle.std.specs.Prelude.{◌≡◌, [], ◌∷◌};
 ghost use Rattle.pg_base.specs.Examples.{edge};

@@ -1,4 +1,4 @@
-//! Grids by hand.
+//! Small grids edge by edge, and the number of edges of a large one.
 ghost use Rattle.std.specs.Prelude.{◌≡◌, ◌*◌, ◌≤◌};
 ghost use Rattle.pg_base.specs.declared.TheConstants.{MAX_VERTICES};
 

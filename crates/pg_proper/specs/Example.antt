@@ -1,5 +1,5 @@
--- One edge, whose ends two ranks own: both take colour 0, and the greater end's rank finds the clash and gives 1. And the same
--- edge on one rank, which colours both ends in one pass.
+-- One edge, whose ends two ranks own: both take colour 0, and the greater end's rank finds the clash and gives 1. And
+-- the same edge on one rank, which colours both ends in one pass.
 use Rattle.std.specs.Prelude.{◌==◌, ◌-◌, cond, ℕ, zero, suc, List, [], ◌∷◌, Some, None}
 use Rattle.pg_base.specs.declared.edges.Edge.{Edge}
 use Rattle.pg_base.specs.Examples.{edge, graph}

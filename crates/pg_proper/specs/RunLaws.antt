@@ -1,6 +1,6 @@
 -- What the colours of a run are, and that each run ends.
--- Source: Boman, Bozdağ, Catalyurek, Gebremedhin and Manne, A scalable parallel graph coloring algorithm for distributed
--- memory computers (Euro-Par 2005).
+-- Source: Boman, Bozdağ, Catalyurek, Gebremedhin and Manne, A scalable parallel graph coloring algorithm for
+-- distributed memory computers (Euro-Par 2005).
 use Rattle.std.specs.Prelude.{◌≡◌, ℕ, ◌<◌, ◌≤◌}
 use Rattle.pg_base.specs.Colouring.{IsProper, IsFirstFit}
 use Rattle.pg_proper.specs.Passes.{AreApart, HasColour}

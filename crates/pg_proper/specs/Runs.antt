@@ -1,13 +1,14 @@
 -- Colouring on several ranks: passes, and between them a look at the ghosts' colours for clashes.
--- Source: Boman, Bozdağ, Catalyurek, Gebremedhin and Manne, A scalable parallel graph coloring algorithm for distributed
--- memory computers (Euro-Par 2005).
+-- Source: Boman, Bozdağ, Catalyurek, Gebremedhin and Manne, A scalable parallel graph coloring algorithm for
+-- distributed memory computers (Euro-Par 2005).
 use Rattle.std.specs.Prelude.{◌≡◌, ◌≢◌, ◌↔◌, ◌==◌, cond, ℕ, zero, suc, ◌<◌, ◌≤◌, List, [], Some, None, AllPairs, Contains}
 use Rattle.pg_base.specs.Graph.{Graph, IsGraph}
 use Rattle.pg_base.specs.Colouring.{AreJoined}
 use Rattle.pg_proper.specs.Passes.{Colours, Passes}
 
--- A graph, who owns its vertices, each rank's own vertices, and for each rank r and number j of a pass, from 0: the list that r
--- goes through, its vertices' colours after the pass, and its ghosts' colours after the refreshing round that follows.
+-- A graph, who owns its vertices, each rank's own vertices, and for each rank r and number j of a pass, from 0: the
+-- list that r goes through, its vertices' colours after the pass, and its ghosts' colours after the refreshing round
+-- that follows.
 pub record Run : Type 0 where
   pub graph : Graph
   pub ranks : ℕ
@@ -35,8 +36,9 @@ abbrev pub known : Run → ℕ → ℕ → Colours
 known run r zero = λ v. None
 known run r (suc j) = λ v. cond (run.owner v == r) (run.colours r j v) (run.seen r j v)
 
--- The rules, kept by all ranks up to pass `last`. The first list is all own vertices and each further one the clashes, in
--- ascending order; a pass begins with what its rank knows; and what a rank has seen of a ghost is its owner's colour.
+-- The rules, kept by all ranks up to pass `last`. The first list is all own vertices and each further one the clashes,
+-- in ascending order; a pass begins with what its rank knows; and what a rank has seen of a ghost is its owner's
+-- colour.
 pub record IsRun (run : Run) (last : ℕ) : Type 0 where
   pub graph : IsGraph run.graph
   pub owned : (v : ℕ) → 1 ≤ v → v ≤ run.graph.n → run.owner v < run.ranks

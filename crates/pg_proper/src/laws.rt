@@ -1,5 +1,5 @@
-//! What follows from the rules by which ranks colour their vertices. No call does anything: each is proved to meet the laws
-//! that its clauses state.
+//! What follows from the rules by which ranks colour their vertices. No call does anything: each is proved to meet the
+//! laws that its clauses state.
 
 ghost use Rattle.std.specs.Prelude.{◌≡◌, [], ◌∷◌};
 ghost use Rattle.pg_proper.specs.Example.{example, example_answer, lone_example};
@@ -26,8 +26,8 @@ pub fn endings()
     ensures comes { EndComes }
 {}
 
-/// After every pass own vertices have colours and none has that of an own neighbour. Once the run has ended the colours are
-/// proper, and with one rank they are those of first fit.
+/// After every pass own vertices have colours and none has that of an own neighbour. Once the run has ended the colours
+/// are proper, and with one rank they are those of first fit.
 pub fn colourings()
     ensures own { OwnStayApart }
     ensures coloured { VerticesAreColoured }

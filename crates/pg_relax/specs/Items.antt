@@ -1,4 +1,5 @@
--- What an item of relaxation is: a place is taken up, or at least one arc ahead is passed. And what handling an offer does.
+-- What an item of relaxation is: a place is taken up, or at least one arc ahead is passed. And what handling an offer
+-- does.
 use Rattle.std.specs.Prelude.{◌≡◌, ◌⊎◌, ◌<◌, ℕ, true, false, Option, Some, None, List, length, ⊤}
 use Rattle.pg_label.specs.declared.values.Value.{Value}
 use Rattle.pg_agenda.specs.declared.shares.Share.{Share}
@@ -29,7 +30,8 @@ pub record IsTakenUp (p : Portion) (ready pending pending' : Places) (ahead' : O
   pub taken : pending' share place ≡ false
   pub ahead : IsRowAhead p place share ahead'
 
--- A ready place is taken up; or the same one is being relaxed, for the same share, from a later arc on; or its arcs are all passed.
+-- A ready place is taken up; or the same one is being relaxed, for the same share, from a later arc on; or its arcs are
+-- all passed.
 abbrev pub IsItem : Portion → Places → Places → Places → Option Ahead → Option Ahead → Type 0
 IsItem p ready pending pending' None ahead = IsTakenUp p ready pending pending' ahead
 IsItem p ready pending pending' (Some h) None = ⊤

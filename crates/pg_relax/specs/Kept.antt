@@ -1,5 +1,6 @@
 -- What a rank that relaxes promises of a whole run, and its opening state.
--- Source: after Gregor and Lumsdaine, Lifting sequential graph algorithms for distributed-memory parallel computation (OOPSLA 2005).
+-- Source: after Gregor and Lumsdaine, Lifting sequential graph algorithms for distributed-memory parallel computation
+-- (OOPSLA 2005).
 use Rattle.std.specs.Prelude.{◌≡◌, ◌⊎◌, ◌<◌, ◌≤◌, ℕ, Bool, true, false, Option, Some, None, List, length, slice_index, slice_get}
 use Rattle.pg_group.specs.declared.messages.Body.{Body}
 use Rattle.pg_group.specs.declared.messages.Vote.{Vote}
@@ -16,7 +17,8 @@ use Rattle.pg_relax.specs.declared.ahead.Ahead.{Ahead}
 use Rattle.pg_relax.specs.Tables.{value_at}
 use Rattle.pg_relax.specs.States.{part_of, due, Relaxes}
 
--- The law of relaxation over these lists, and what it says of marks and votes. Once the vote is cast nothing is being relaxed.
+-- The law of relaxation over these lists, and what it says of marks and votes. Once the vote is cast nothing is being
+-- relaxed.
 pub record HasRelaxed (label : Label) (p : Portion) (takes : Places) (handled sent : List (List (Body Offer))) (values : List Value) (pending : Places) (ahead : Option Ahead)
     (round : ℕ) (cast : Option Vote) (ended sends : Bool) : Type 0 where
   pub relaxes : Relaxes label p takes handled sent values pending ahead

@@ -1,5 +1,7 @@
--- What was offered to the vertices of other ranks: the last value for each, and where it went, which saves later offers that are no better.
--- Source: the ghost cells of Gregor and Lumsdaine, Lifting sequential graph algorithms for distributed-memory parallel computation (OOPSLA 2005).
+-- What was offered to the vertices of other ranks: the last value for each, and where it went, which saves later offers
+-- that are no better.
+-- Source: the ghost cells of Gregor and Lumsdaine, Lifting sequential graph algorithms for distributed-memory parallel
+-- computation (OOPSLA 2005).
 use Rattle.std.specs.Prelude.{◌≡◌, ◌⊎◌, ℕ, ◌+◌, ◌<◌, ◌≤◌, Some, List, length, slice_get, slice_set}
 use Rattle.pg_group.specs.declared.messages.Body.{Body}
 use Rattle.pg_label.specs.declared.values.Value.{Value}
@@ -39,7 +41,8 @@ pub record IsKnown (offered : Offered) (home : ℕ) (offer : Offer) : Type 0 whe
   pub vertex : offered.first + index ≡ offer.to.0
   pub went : WentAsLow told home offer
 
--- The offer stands for its vertex. (In a divided graph all arcs to a vertex lead one way, so what stood there went that way too.)
+-- The offer stands for its vertex. (In a divided graph all arcs to a vertex lead one way, so what stood there went that
+-- way too.)
 pub record IsSet (home : ℕ) (offer : Offer) (offered offered' : Offered) : Type 0 where
   pub index : ℕ
   pub within : index < length offered.told.items
@@ -53,7 +56,8 @@ pub record IsGhostOf (home : ℕ) (offer : Offer) (ghost : Ghost) : Type 0 where
   pub home_is : ghost.home.0 ≡ home
   pub place : ghost.place ≡ offer.place
 
--- Nothing changed, or the offer stands for its vertex; and where it goes to a ghost of the part it is known from now on.
+-- Nothing changed, or the offer stands for its vertex; and where it goes to a ghost of the part it is known from now
+-- on.
 pub record IsNoted (p : Portion) (home : ℕ) (offer : Offer) (offered offered' : Offered) : Type 0 where
   pub changes : (offered' ≡ offered) ⊎ IsSet home offer offered offered'
   pub known : (slot : ℕ) (g : Ghost) → slice_get p.ghosts slot ≡ Some g → IsGhostOf home offer g → IsKnown offered' home offer

@@ -52,8 +52,8 @@ module _ {L A : Type 0} {l : LabelGhosts L} {a : AgendaGhosts A} where
     pub sends : r.sends ≡ false
     pub unoffered : (index : ℕ) (told : Told) → slice_get r.offered.told.items index ≡ Some told → shown told.value ≡ None
 
-  -- The part, the label and the arcs that each share takes stay, the law of relaxation holds over what was handled and sent, and
-  -- what stands for a vertex of another rank was offered to it.
+  -- The part, the label and the arcs that each share takes stay, the law of relaxation holds over what was handled and
+  -- sent, and what stands for a vertex of another rank was offered to it.
   pub record KeepsRelaxed (start : Relax L A l a) (handled sent : List (List (Body Offer))) (r : Relax L A l a) : Type 0 where
     pub part : r.part ≡ start.part
     pub label : r.label ≡ start.label

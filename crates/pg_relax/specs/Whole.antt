@@ -1,5 +1,6 @@
 -- A whole run of relaxations over a divided list of arcs, and what its values are.
--- Source: Gregor and Lumsdaine, Lifting sequential graph algorithms for distributed-memory parallel computation (OOPSLA 2005).
+-- Source: Gregor and Lumsdaine, Lifting sequential graph algorithms for distributed-memory parallel computation (OOPSLA
+-- 2005).
 use Rattle.std.specs.Prelude.{◌≡◌, ℕ, ◌^◌, ◌<◌, ◌≤◌, Bool, true, Option, List, All}
 use Rattle.pg_base.specs.declared.TheConstants.{MAX_VERTICES}
 use Rattle.pg_base.specs.Graph.{Arc}
@@ -41,14 +42,16 @@ pub record HasRelaxedOver (label : Label) (ranks rank : ℕ) (sent taken : PairL
   pub handled_is : (from : ℕ) → IsOther rank ranks from → list_at handled from ≡ taken from rank
   pub sent_is : (to : ℕ) → IsOther rank ranks to → list_at promised to ≡ sent rank to
 
--- The arcs join at most 1,048,576 vertices, no arc costs more than the greatest weight, and the arcs are divided among the ranks' parts.
+-- The arcs join at most 1,048,576 vertices, no arc costs more than the greatest weight, and the arcs are divided among
+-- the ranks' parts.
 pub record AreDivided (label : Label) (n ranks : ℕ) (arcs : List Arc) (owner place : ℕ → ℕ) (states : ℕ → State) : Type 0 where
   pub size : n ≤ MAX_VERTICES
   pub joining : All (IsArc n) arcs
   pub costs : All (λ a. label.add a.weight < 2 ^ 32) arcs
   pub divided : IsDivided n ranks arcs owner place (λ r. part_of (states r).part)
 
--- Over a whole book, where all ranks have ended, each vertex has at its owner the least value of a walk that leads to it.
+-- Over a whole book, where all ranks have ended, each vertex has at its owner the least value of a walk that leads to
+-- it.
 abbrev pub WholeIsBest : Type 0
 WholeIsBest = (label : Label) (n ranks : ℕ) (arcs : List Arc) (owner place : ℕ → ℕ) (states : ℕ → State) (sent taken : PairLists Offer)
     → AreDivided label n ranks arcs owner place states → IsWhole ranks sent taken → IsMarked ranks sent

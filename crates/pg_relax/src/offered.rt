@@ -11,8 +11,8 @@ use pg_best::Offer;
 use pg_label::Value;
 use std::alloc::{AllocError, Global};
 
-/// The last offer that was sent to a vertex: its value, and the rank and place where it went. Where none was sent the value is
-/// that of none. Value and way stand together, so that one look at memory finds both.
+/// The last offer that was sent to a vertex: its value, and the rank and place where it went. Where none was sent the
+/// value is that of none. Value and way stand together, so that one look at memory finds both.
 #[derive(Clone, Copy)]
 pub(crate) struct Told {
     pub(crate) value: Value,

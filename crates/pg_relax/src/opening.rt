@@ -21,9 +21,9 @@ use pg_label::{Label, Value};
 use std::alloc::Global;
 
 impl<L: Label + Drop, A: Agenda + Drop> Relax<L, A> {
-    /// The relaxation of one part, with a new agenda of as many places. Each own vertex that the label starts has the value of
-    /// its start and is pending. Takes 16 bytes for each own vertex, and 24 for each vertex from the least ghost to the
-    /// greatest. `OutOfMemory` comes only where memory is wanting.
+    /// The relaxation of one part, with a new agenda of as many places as it has own vertices. Each own vertex that the
+    /// label starts has the value of its start and is pending. Takes 16 bytes for each own vertex, and 24 for each
+    /// vertex from the least ghost to the greatest. `OutOfMemory` comes only where an allocation is refused.
     pub fn new(alloc: Global, part: Part, label: L, agenda: A) -> Result<Relax<L, A>, OutOfMemory>
         requires none { AreNone (A.pending agenda) }
         requires count { A.count agenda ≡ length part.vertices }
@@ -90,7 +90,8 @@ fn open_place<L: Label, A: Agenda>(label: &L, frontier: &mut Frontier<A>, place:
 }
 
 impl<L: Label, A: Agenda> Relax<L, A> {
-    /// The value of the own vertex at the place `i`, counted from 0, if it has one.
+    /// The value of the own vertex at the place `i`, counted from 0; `None` where it has none. After a whole run it is
+    /// the least value of a walk that leads to the vertex ([`crate::laws::whole_runs`]).
     pub fn value(&self, i: u32) -> Option<Value>
         requires { i < length (part_in self.now).vertices }
         ensures value { result ≡ value_at (state_of self.now).values i }

@@ -1,4 +1,4 @@
-//! A rank's relaxation.
+//! What a rank keeps while it relaxes the arcs of its part.
 ghost use Rattle.std.specs.Prelude.{◌≡◌, ◌<◌, true, None, length};
 ghost use Rattle.std.specs.Option.{ForSome};
 ghost use Rattle.pg_relax.specs.Offered.{Covers};
@@ -14,8 +14,8 @@ use pg_group::Vote;
 use pg_label::Label;
 
 /// The rank program that relaxes the arcs of one part of a divided graph. It keeps for each own vertex the least value
-/// known of a walk that leads there from a vertex that the label starts, and offers values to the owners of the vertices
-/// that its arcs lead to. The agenda says which vertices are relaxed when.
+/// known of a walk that leads there from a vertex that the label starts, and offers values to the owners of the
+/// vertices that its arcs lead to. The agenda says which vertices are relaxed when.
 ///
 /// Source: Gregor and Lumsdaine, Lifting sequential graph algorithms for distributed-memory parallel computation
 /// (OOPSLA 2005): the distributed breadth-first search and shortest paths of the Parallel Boost Graph Library.

@@ -68,7 +68,8 @@ pub(crate) struct Went {
     pub(crate) worked: Worked,
 }
 
-/// Passes the arcs ahead up to the next offer, sends it and notes it. Where the lane is full, the offer's arc is still ahead.
+/// Passes the arcs ahead up to the next offer, sends it and notes it. Where the lane is full, the offer's arc is still
+/// ahead.
 pub(crate) fn go_on<L: Label, A: Agenda, O: Outbox<Offer>>(
     part: &Part,
     label: &L,
