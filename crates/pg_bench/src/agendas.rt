@@ -1,4 +1,4 @@
-//! What a relaxation makes its ranks' agendas by.
+//! How the agendas of a relaxation's ranks are made.
 ghost use Rattle.std.specs.Prelude.{◌≡◌, ◌≤◌, IfOk};
 ghost use Rattle.pg_agenda.specs.Shares.{AreNone};
 
@@ -27,6 +27,7 @@ impl Agendas<Levels> for ByLevel {
 /// Places in the order of delta-stepping, by buckets of this width.
 #[derive(Clone, Copy, Debug)]
 pub struct ByBucket {
+    /// The width of a bucket, in units of weight.
     pub delta: u32,
     ghost a_width: { 1 ≤ delta },
 }

@@ -18,7 +18,7 @@ pub fn edge_count(alloc: Global, programs: &[Counted<Dense>]) -> Result<u64, Out
     Ok(edges.len() as u64)
 }
 
-/// How many colours there are, from 0 to the greatest that a vertex has.
+/// How many colours there are, from 0 to the greatest that a vertex has; 0 where no vertex has one.
 pub fn colour_count(programs: &[Counted<Colouring>]) -> u64
     ensures { IsLeast (λ bound. All (λ p. HasColoursBelow bound p.program) programs.now) result }
 {

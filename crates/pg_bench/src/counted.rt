@@ -9,6 +9,7 @@ use pg_group::{Next, Outbox, Program, Vote, Worked};
 /// A program that counts the items that it handles, and else does what the program within does.
 #[derive(Drop)]
 pub struct Counted<P> {
+    /// The program within.
     pub program: P,
     taken: u64,
 }

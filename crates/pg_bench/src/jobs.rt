@@ -26,14 +26,14 @@ pub struct Division<'a> {
     pub file: &'a str,
     /// Among how many ranks its graph is divided.
     pub ranks: Ranks,
-    /// How.
+    /// How its vertices are divided.
     pub layout: Layout,
 }
 
 /// Ranks that send each other messages.
 #[derive(Clone, Copy, Debug)]
 pub struct Traffic {
-    /// How many they are.
+    /// How many ranks there are.
     pub ranks: Ranks,
     /// For how many rounds they send.
     pub rounds: NonZeroU32,
@@ -53,9 +53,9 @@ pub struct Map<'a> {
 pub struct Run<'a> {
     /// The name of the graph file.
     pub file: &'a str,
-    /// Which one.
+    /// Which algorithm.
     pub algorithm: Algorithm,
-    /// By whom.
+    /// By how many ranks and threads.
     pub crew: Crew,
 }
 
@@ -120,8 +120,8 @@ impl Crew {
 
 impl<'a> Job<'a> {
     /// The job of the words `FILE RANKS block|random`, `traffic RANKS ROUNDS`, `cells FILE RANKS`,
-    /// `relax FILE bfs|sssp|components RANKS THREADS [DELTA]`, where `DELTA` is for sssp alone, 32 where it is not given,
-    /// `forest FILE RANKS THREADS` or `colour FILE RANKS THREADS`. `None` for all others.
+    /// `relax FILE bfs|sssp|components RANKS THREADS [DELTA]`, where `DELTA` is for sssp alone, 32 where it is not
+    /// given, `forest FILE RANKS THREADS` or `colour FILE RANKS THREADS`. `None` for all others.
     pub fn of_words(words: &'a [String]) -> Option<Job<'a>> {
         match words.len() {
             3 => Job::of_three(words),

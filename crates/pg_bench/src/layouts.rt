@@ -14,7 +14,7 @@ pub enum Layout {
 }
 
 impl Layout {
-    /// The layout of this name.
+    /// The layout of the name `block` or `random`. `None` for all others.
     pub fn named(name: &str) -> Option<Layout> {
         match name {
             "block" => Some(Layout::Block),

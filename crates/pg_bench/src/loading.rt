@@ -1,4 +1,4 @@
-//! Graphs of files.
+//! Reading a graph file, with the time that it took.
 use pg_base::EdgeList;
 use pg_metis::{GraphFault, read_graph};
 use pg_outside::{FileInputs, Inputs};
@@ -9,7 +9,9 @@ use std::time::{Duration, Instant};
 /// A graph, and how long it took to be read.
 #[derive(Drop)]
 pub struct Loaded {
+    /// The graph.
     pub graph: EdgeList,
+    /// How long reading took.
     pub reading: Duration,
 }
 
@@ -21,7 +23,8 @@ pub fn load_timed(rt: &HostRuntime, file: &str) -> io::Result<Loaded> {
     Ok(Loaded { graph, reading })
 }
 
-/// The graph of the file of this name.
+/// The graph of the file of this name. `NotFound`: the file can't be opened. `InvalidData`: it is no graph file.
+/// `Other`: a read failed. `OutOfMemory`: an allocation was refused.
 pub fn load(rt: &HostRuntime, file: &str) -> io::Result<EdgeList> {
     let mut inputs = FileInputs::new(rt);
     inputs.begin(file).map_err(|_| ErrorKind::NotFound)?;

@@ -21,10 +21,10 @@
 //!     pg_bench colour FILE RANKS THREADS
 //!
 //! divides the graph in blocks and relaxes from vertex 1, or from each vertex for components, with buckets of width
-//! DELTA, or 32, for sssp; or grows a least spanning forest; or colours. It prints how many messages were sent, how many
-//! of them were items, or offers, and not marks, and how many ghosts the ranks have together, edges the forest or colours
-//! the colouring; and on standard error the milliseconds of reading, of dividing together with making the programs, and
-//! of running.
+//! DELTA, or 32, for sssp; or grows a least spanning forest; or colours. It prints how many messages were sent, how
+//! many of them were items, or offers, and not marks, and how many ghosts the ranks have together, edges the forest or
+//! colours the colouring; and on standard error the milliseconds of reading, of dividing together with making the
+//! programs, and of running.
 #![tactic(auto)]
 
 ghost use Rattle.std.specs.Prelude.{◌≡◌};

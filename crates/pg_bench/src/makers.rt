@@ -1,4 +1,4 @@
-//! What the programs of a group's ranks are made by.
+//! How the programs of a group's ranks are made.
 ghost use Rattle.std.specs.Prelude.{◌≡◌, ◌≤◌, IfOk};
 ghost use Rattle.pg_base.specs.declared.TheConstants.{MAX_EDGES};
 ghost use Rattle.pg_adj.specs.Portions.{Portion};
@@ -34,7 +34,9 @@ pub trait Maker<P: Program> {
 /// Relaxations by a rule, each with a new agenda.
 #[derive(Clone, Copy, Debug)]
 pub struct Relaxations<L, M> {
+    /// The rule.
     pub label: L,
+    /// How the agendas are made.
     pub agendas: M,
 }
 
@@ -53,9 +55,10 @@ impl<L: Label + Copy + Send + Drop, A: Agenda + Send + Drop, M: Agendas<A>> Make
     }
 }
 
-/// Forests by Borůvka's method, of a graph with so many edges.
+/// Forests by Borůvka's method.
 #[derive(Clone, Copy, Debug)]
 pub struct Forests {
+    /// How many edges the whole graph has.
     pub edges: u32,
     ghost few: { edges ≤ MAX_EDGES },
 }
@@ -75,7 +78,7 @@ impl Maker<Dense> for Forests {
     }
 }
 
-/// Colourings.
+/// Colourings by passes.
 #[derive(Clone, Copy, Debug)]
 pub struct Colourings;
 

@@ -33,8 +33,8 @@ struct Ran<P> {
     figures: Figures,
 }
 
-// How many messages were sent, how many of them were items, how many ghosts the ranks had together, and how long it took
-// to read the graph, to divide it with making the programs, and to run them.
+// How many messages were sent, how many of them were items, how many ghosts the ranks had together, and how long it
+// took to read the graph, to divide it with making the programs, and to run them.
 #[derive(Clone, Copy, Debug)]
 struct Figures {
     messages: u64,

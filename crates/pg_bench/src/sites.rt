@@ -1,5 +1,5 @@
-//! Property maps of all ranks of a group, driven through their ports by hand: a colouring puts to own cells alone, so that
-//! its runs send no value forward that could be measured.
+//! Property maps of all ranks of a group, driven through their ports by hand: a colouring puts to own cells alone, so
+//! that its runs send no value forward that could be measured.
 ghost use Rattle.std.specs.Prelude.{◌≡◌, ◌≤◌, All, IfOk, length};
 ghost use Rattle.pg_group.specs.Entries.{Each};
 ghost use Rattle.pg_group.specs.Ranked.{IsOther};
@@ -32,7 +32,8 @@ pub struct Site<'a, M: Mailbox<CellBody>> {
     ghost unmarked: { AreUnmarked (M.marks_sent port) },
 }
 
-/// Something came otherwise than a synchronize goes.
+/// The maps didn't go through a synchronize as they should: one was closed before, a lane held a mark or was closed, a
+/// body was left at the end of a round, or two rounds didn't end it.
 #[derive(Clone, Copy, Debug, PartialEq, Eq)]
 pub struct Astray;
 

@@ -1,4 +1,4 @@
-//! Whole runs of pairs of rolls, of one round and of two, and of relaxations.
+//! Whole runs over several ranks: pairs of rolls, relaxations, a forest and a colouring.
 ghost use Rattle.std.specs.Prelude.{◌≡◌, ◌≤◌, All, IfOk, length};
 ghost use Rattle.pg_group.specs.Entries.{Each};
 ghost use Rattle.pg_bench.specs.Divisions.{AreInOrder, HasEdgesBelow};

@@ -8,8 +8,11 @@ use pg_adj::Part;
 /// How much the ranks have together.
 #[derive(Clone, Copy, Debug, PartialEq, Eq)]
 pub struct Totals {
+    /// The arcs of their own vertices.
     pub arcs: u64,
+    /// Their ghosts.
     pub ghosts: u64,
+    /// The holders of their own vertices.
     pub holders: u64,
 }
 

@@ -52,7 +52,7 @@ pub enum GraphFault {
     Refused { line: u64, kind: Kind },
     /// A read failed.
     Failed,
-    /// Want of memory. No clause says when it comes.
+    /// Out of memory. No clause says when it comes.
     OutOfMemory,
 }
 

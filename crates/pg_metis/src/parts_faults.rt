@@ -29,7 +29,7 @@ pub enum PartsFault {
     Refused { line: u64, kind: PartsKind },
     /// A read failed.
     Failed,
-    /// Want of memory. No clause says when it comes.
+    /// Out of memory. No clause says when it comes.
     OutOfMemory,
 }
 

@@ -77,9 +77,9 @@ shown_by (Some p) = state_of p
 abbrev pub states_of : List Colouring → ℕ → State
 states_of programs rank = shown_by (slice_get programs rank)
 
--- In each refreshing round that has ended, the lane from the home of a ghost carried exactly one refresh of it, with the colour that the home
--- had for it after the pass before. The histories are those that the ranks' promises tell, of the passes that they made, as nothing but
--- refreshes from their homes was handled.
+-- In each refreshing round that has ended, the lane from the home of a ghost carried exactly one refresh of it, with
+-- the colour that the home had for it after the pass before. The histories are those that the ranks' promises speak of,
+-- of the passes that they made, as nothing but refreshes from their homes was handled.
 pub record AreKeptFresh (s : Sharing) (parts : List Portion) (programs : List Colouring) (lanes : List (Settled (Envelope CellBody))) : Type 0 where
   pub histories : ℕ → History
   pub told : AreHistories s parts (states_of programs) (sent_on s.ranks lanes) (taken_on s.ranks lanes) histories

@@ -9,7 +9,7 @@ use Rattle.pg_words.specs.Plan.{Meaning}
 use Rattle.pg_words.specs.declared.plans.Algorithm.{Algorithm}
 use Rattle.pg_words.specs.declared.plans.Algorithm.TheVariants.{Grid}
 
--- Where the files are told, one has this name, and P holds of its contents.
+-- Where the files are known, one has this name, and P holds of its contents.
 abbrev pub FileHolds : List ℕ → Option (List NamedBytes) → (List ℕ → Type 0) → Type 0
 FileHolds name None P = ⊤
 FileHolds name (Some files) P = (text : List ℕ) × (contents_of name files ≡ Some text) × P text
@@ -18,7 +18,7 @@ FileHolds name (Some files) P = (text : List ℕ) × (contents_of name files ≡
 abbrev pub IsFileOf : (Graph → Type 0) → List ℕ → Type 0
 IsFileOf P text = (g : Graph) × FileOf text g × P g
 
--- P holds of the graph of the file of this name; where the files aren't told, of some graph.
+-- P holds of the graph of the file of this name; where the files aren't known, of some graph.
 abbrev pub HasGraph : List ℕ → Option (List NamedBytes) → (Graph → Type 0) → Type 0
 HasGraph name None P = (g : Graph) × IsGraph g × P g
 HasGraph name (Some files) P = FileHolds name (Some files) (IsFileOf P)
@@ -32,12 +32,12 @@ pub record AreOwners (n ranks : ℕ) (owners : List ℕ) : Type 0 where
   pub count : length owners ≡ n
   pub below : All (λ owner. owner < ranks) owners
 
--- P holds of the owners that the file of this name lists for n vertices; where the files aren't told, of some owners.
+-- P holds of the owners that the file of this name lists for n vertices; where the files aren't known, of some owners.
 abbrev pub HasList : List ℕ → Option (List NamedBytes) → ℕ → ℕ → (List ℕ → Type 0) → Type 0
 HasList name None n ranks P = (owners : List ℕ) × AreOwners n ranks owners × P owners
 HasList name (Some files) n ranks P = FileHolds name (Some files) (IsListOf n ranks P)
 
--- A partition file is named, and P holds of its contents where the files are told.
+-- A partition file is named, and P holds of its contents where the files are known.
 abbrev pub PartsHold : Option (List ℕ) → Option (List NamedBytes) → (List ℕ → Type 0) → Type 0
 PartsHold None files P = ⊥
 PartsHold (Some name) files P = FileHolds name files P
@@ -70,17 +70,17 @@ IsMissingParts (Some name) files = IsMissing name files
 abbrev pub MissesFile : Meaning → Option (List NamedBytes) → Type 0
 MissesFile plan files = IsMissing plan.file files ⊎ (IsMissingParts plan.parts files × FileHolds plan.file files (IsFileOf (λ g. ⊤)))
 
--- The contents of a name, where they are told.
+-- The contents of a name, where they are known.
 abbrev pub told : List ℕ → Option (List NamedBytes) → Option (List ℕ)
 told name None = None
 told name (Some files) = contents_of name files
 
--- The files tell a list of owners for n vertices, where a partition file is named.
+-- Where a partition file is named, it is known and lists owners for n vertices.
 abbrev pub TellsOwners : Option (List ℕ) → Option (List NamedBytes) → ℕ → ℕ → Type 0
 TellsOwners None files n ranks = ⊤
 TellsOwners (Some name) files n ranks = (text : List ℕ) × (told name files ≡ Some text) × IsListOf n ranks (λ owners. ⊤) text
 
--- Where the files are told, no byte is left of the one that was begun last.
+-- Where the files are known, no byte is left of the one that was begun last.
 abbrev pub IsReadToEnd : Option (List NamedBytes) → Option (List ℕ) → Type 0
 IsReadToEnd None left = ⊤
 IsReadToEnd (Some files) left = left ≡ Some []

@@ -78,16 +78,16 @@ RunFails words files t Write = HasPlan words (λ plan. Rose t.out_before t.out_a
 RunFails words files t Memory = ⊤
 RunFails words files t fault = HasPlan words (λ plan. InputFails plan files t.inputs_before t.inputs_after fault)
 
--- A text that is told grew by this line where no fault was counted, and by a front of it in any case.
+-- A text that is known grew by this line where no fault was counted, and by a front of it in any case.
 pub record Reports (before after : ℕ) (old new : Option (List ℕ)) (line : List ℕ) : Type 0 where
   pub whole : (Rose before after → ⊥) → Appends old new line
   pub front : AppendsFront old new line
 
--- The status is the expected one, or that of want of memory.
+-- The status is the expected one, or that of a run out of memory.
 abbrev pub IsOrNoMemory : Status → Status → Type 0
 IsOrNoMemory expected status = (status ≡ expected) ⊎ (status ≡ NoMemory)
 
--- The words have this plan, of an algorithm that reads files, and the files tell this text under the plan's name.
+-- The words have this plan, of an algorithm that reads files, and the known files have this text under the plan's name.
 pub record Tells (words : List (List ℕ)) (files : Option (List NamedBytes)) (plan : Meaning) (text : List ℕ) : Type 0 where
   pub planned : plan_of words ≡ Some plan
   pub reads : ReadsFiles plan.algorithm

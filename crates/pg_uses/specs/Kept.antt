@@ -32,11 +32,12 @@ abbrev pub mark_of : Option Vote → List (Body ℕ)
 mark_of None = []
 mark_of (Some vote) = Mark vote ∷ []
 
--- What is told to another rank: the own number once, and then the mark, once the vote is cast.
+-- What is sent to another rank: the own number once, and then the mark, once the vote is cast.
 abbrev pub told : Degrees → ℕ → List (Body ℕ)
 told p to = (if nat_lt to p.next then Item p.own ∷ [] else []) ++ mark_of p.cast
 
--- What a program keeps of a run: it knows the greatest of its own number and those handled, and what each other rank was told is `told`.
+-- What a program keeps of a run: it knows the greatest of its own number and those handled, and what was sent to each
+-- other rank is `told`.
 pub record KeepsDegrees (start : Degrees) (handled sent : List (List (Body ℕ))) (p : Degrees) : Type 0 where
   pub same_rank : p.rank ≡ start.rank
   pub same_ranks : p.ranks ≡ start.ranks
@@ -46,10 +47,10 @@ pub record KeepsDegrees (start : Degrees) (handled sent : List (List (Body ℕ))
   pub greatest : IsGreatest (IsKnown p.own handled) p.greatest
   pub tells : (to : ℕ) → IsOther p.rank.0 p.ranks to → list_at sent to ≡ told p to
 
--- one other rank was told the own number
+-- the own number was sent to one other rank
 abbrev pub TellsOne : Degrees → List (List (Body ℕ)) → List (List (Body ℕ)) → Type 0
 TellsOne p sent more = (to : ℕ) × IsOther p.rank.0 p.ranks to × (more ≡ append_at sent to (Item p.own))
 
--- every other rank was told it
+-- it was sent to every other rank
 abbrev pub HasToldAll : Degrees → Type 0
 HasToldAll p = (to : ℕ) → IsOther p.rank.0 p.ranks to → to < p.next

@@ -23,7 +23,8 @@ use Rattle.pg_uses.specs.Synchronizing.{IsMapOf, KeepsMap}
 abbrev pub HoldsDegrees : Graph → NeighbourDegrees → Type 0
 HoldsDegrees g p = (v : ℕ) (value : Option ℕ) → IsValueOf (state_of p.cells) v value → value ≡ Some (degree g.edges v)
 
--- The part has the vertices that the rank owns, its arcs lead to their neighbours, and each of these is an own vertex or a ghost.
+-- The part has the vertices that the rank owns, its arcs lead to their neighbours, and each of these is an own vertex
+-- or a ghost.
 pub record KnowsNeighbours (s : Sharing) (g : Graph) (rank : ℕ) (part : Portion) : Type 0 where
   pub count : length part.vertices ≡ s.count rank
   pub vertex : (place : ℕ) → place < s.count rank → slice_index part.vertices place ≡ s.global rank place

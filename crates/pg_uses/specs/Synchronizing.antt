@@ -1,4 +1,5 @@
--- The program of one rank whose property map holds degrees: what it shows, what its calls do, and what it promises of a whole run.
+-- The program of one rank whose property map holds degrees: what it shows, what its calls do, and what it promises of a
+-- whole run.
 use Rattle.std.specs.Prelude.{◌≡◌, ◌<◌, ℕ, true, false, max, List, [], None, length}
 use Rattle.pg_group.specs.declared.messages.Body.{Body}
 use Rattle.pg_group.specs.declared.messages.Body.TheVariants.{Item}
@@ -48,8 +49,9 @@ pub record HandlesBody (p : NeighbourDegrees) (from : ℕ) (body : CellBody) (q 
   pub after_end : p.ended ≡ true → q.cells ≡ p.cells
   pub same_part : q.part ≡ p.part
 
--- What a program keeps of a run. Events led from the map that it began with to the present one. Up to its end they handled and
--- sent, round by round, just what the program did. At the end a synchronize is over, and the map's laws of that are at hand.
+-- What a program keeps of a run. Events led from the map that it began with to the present one. Up to its end they
+-- handled and sent, round by round, just what the program did. At the end a synchronize is over, and the map's laws of
+-- that are at hand.
 pub record KeepsMap (start : NeighbourDegrees) (heard told : List (List (Body CellBody))) (p : NeighbourDegrees) : Type 0 where
   pub same_part : p.part ≡ start.part
   pub from_each : length heard ≡ p.part.ranks

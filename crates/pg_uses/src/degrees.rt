@@ -9,8 +9,8 @@ use pg_adj::Part;
 use pg_base::{RankNo, Ranks};
 use pg_group::Vote;
 
-/// The program of one rank that finds the greatest degree of a divided graph. In its one round it tells every other rank
-/// the greatest degree among its own vertices, and keeps the greatest that it is told.
+/// The program of one rank that finds the greatest degree of a divided graph. In its one round it sends the greatest
+/// degree among its own vertices to every other rank, and keeps the greatest of this number and those that it gets.
 #[derive(Debug, Drop)]
 pub struct Degrees {
     pub(crate) rank: RankNo,
@@ -18,7 +18,7 @@ pub struct Degrees {
     // The greatest degree among the own vertices, and the greatest that is known.
     pub(crate) own: u64,
     pub(crate) greatest: u64,
-    // Every other rank below was told the own one.
+    // The own one was sent to every other rank below `next`.
     pub(crate) next: u32,
     pub(crate) idle: bool,
     pub(crate) cast: Option<Vote>,
@@ -32,7 +32,8 @@ pub struct Degrees {
 impl Degrees {
     ghost use Rattle.pg_uses.specs.Kept.{HasToldAll, IsProgramOf};
 
-    /// The program of the rank that holds this part. Takes time linear in the part's vertices.
+    /// The program of the rank that holds this part, before it has sent anything. Takes time linear in the part's
+    /// vertices, and allocates nothing.
     pub fn new(part: &Part) -> Degrees
         ensures { IsProgramOf part.now result }
     {
@@ -49,14 +50,15 @@ impl Degrees {
         }
     }
 
-    /// The greatest degree that the rank knows.
+    /// The greatest degree that the rank knows: of a new program that of its own vertices, 0 where it has none, and
+    /// after a whole run that of the graph ([`crate::run_degrees`]).
     pub fn greatest(&self) -> u64
         ensures { result ≡ self.now.greatest }
     {
         self.greatest
     }
 
-    // The next rank that is to be told.
+    // The next rank that the own number is to be sent to.
     pub(crate) fn receiver(&self) -> Option<RankNo>
         ensures other { IfSome result (λ to. IsOther self.now.rank.0 self.now.ranks to.0) }
         ensures ascending { IfSome result (λ to. (self.now.next ≡ to.0) ⊎ ((self.now.next ≡ self.now.rank.0) × (to.0 ≡ self.now.next + 1))) }

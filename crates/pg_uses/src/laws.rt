@@ -12,8 +12,8 @@ pub fn degrees()
     ensures path { IsGreatestDegree (graph 4 path_edges) 2 }
 {}
 
-/// A graph has one list of its neighbours' greatest degrees. In the path of three vertices, beside a fourth one, the ends have
-/// the middle vertex as their neighbour, of degree 2.
+/// A graph has one list of its neighbours' greatest degrees. In the path of three vertices, beside a fourth one, the
+/// ends have the middle vertex as their neighbour, of degree 2.
 pub fn neighbours()
     ensures one { HasOneOfNeighbours }
     ensures path { AreNeighbourDegrees (graph 4 path_edges) (2 ∷ 1 ∷ 2 ∷ 0 ∷ []) }

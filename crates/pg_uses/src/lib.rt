@@ -1,5 +1,5 @@
-//! Rank programs of a user's own, over the library: the greatest degree of a graph that is divided among ranks, and, over a
-//! property map, the greatest degree among each vertex's neighbours. `docs/GUIDE.md` walks through them.
+//! Rank programs of a user's own, over the library: the greatest degree of a graph that is divided among ranks, and,
+//! over a property map, the greatest degree among each vertex's neighbours. `docs/GUIDE.md` walks through them.
 #![tactic(auto)]
 
 mod degrees;

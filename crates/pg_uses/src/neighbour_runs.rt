@@ -1,4 +1,4 @@
-//! Whole runs of the synchronize over a graph.
+//! Whole runs that find the greatest degree among each vertex's neighbours.
 ghost use Rattle.std.specs.Prelude.{◌≡◌, ℕ, ◌≤◌, ◌<◌, IfOk, Some, length, slice_get};
 ghost use Rattle.pg_group.specs.Entries.{Each};
 ghost use Rattle.pg_adj.specs.Portions.{Portion};
@@ -17,9 +17,10 @@ use std::alloc::Global;
 use std::sync::Wait;
 use std::thread::Threads;
 
-/// For each vertex of the graph, in order, the greatest degree among its neighbours, 0 where it has none: that of `v` is the
-/// item `v - 1`. It is found by this many ranks, among which the vertices are divided in blocks. The ranks are driven by
-/// `threads` threads, and a lane holds `capacity` messages. `OutOfMemory` comes only where memory is short.
+/// For each vertex of the graph, in order, the greatest degree among its neighbours, 0 where it has none: that of `v`
+/// is the item `v - 1`. It is found by this many ranks, among which the vertices are divided in blocks. The ranks are
+/// driven by `threads` threads, and a lane holds `capacity` messages, 1 to 1024. `OutOfMemory` comes only where an
+/// allocation is refused.
 pub fn neighbour_degrees<W: Threads + Wait + Sync>(
     token: &W,
     alloc: Global,
@@ -56,9 +57,9 @@ pub fn neighbour_degrees_over<W: Threads + Wait + Sync, D: Distribution>(
     degrees_by_vertex(alloc, graph, dist, &finished.programs)
 }
 
-/// Divides the graph and runs a program for each rank until all have ended. Every cell of each of them, also that of a ghost,
-/// holds the degree of its vertex then. The programs and the lanes come back: every message was taken, and each program has
-/// kept its promise.
+/// Divides the graph and runs a program for each rank until all have ended. Every cell of each of them, also that of a
+/// ghost, holds the degree of its vertex then. The programs and the lanes come back: every message was taken, and each
+/// program has kept its promise. `OutOfMemory` comes only where an allocation is refused.
 pub fn run_neighbour_degrees<W: Threads + Wait + Sync, D: Distribution>(
     token: &W,
     alloc: Global,

@@ -14,7 +14,8 @@ use pg_group::Vote;
 use std::alloc::Global;
 
 /// The program of one rank that finds the greatest degree among each own vertex's neighbours. It keeps degrees in a
-/// property map: at first those of its own vertices, and those of its ghosts too once the map is synchronized, in two rounds.
+/// property map: at first those of its own vertices, and those of its ghosts too once the map is synchronized, in two
+/// rounds.
 #[derive(Drop)]
 pub struct NeighbourDegrees {
     pub(crate) part: Part,
@@ -34,8 +35,8 @@ pub struct NeighbourDegrees {
 impl NeighbourDegrees {
     ghost use Rattle.pg_uses.specs.Synchronizing.{IsMapOf, part_in};
 
-    /// The program of the rank that holds this part. The degrees of its own vertices are put, and the map is closed. Allocates
-    /// the map's memory; `OutOfMemory` comes only where memory is short.
+    /// The program of the rank that holds this part. The degrees of its own vertices are put, and the map is closed.
+    /// This allocates the map; `OutOfMemory` comes only where an allocation is refused.
     pub fn new(alloc: Global, part: Part) -> Result<NeighbourDegrees, OutOfMemory>
         ensures { IfOk result (λ p. IsMapOf part p) }
     {
@@ -52,8 +53,9 @@ impl NeighbourDegrees {
         })
     }
 
-    /// The greatest value among the neighbours of the own vertex at the place, from 0; 0 where it has none. Once the program
-    /// has ended the values are degrees. Takes time linear in the vertex's arcs, but for the search for each ghost's slot.
+    /// The greatest value among the neighbours of the own vertex at the place, from 0; 0 where it has none. Once the
+    /// program has ended the values are degrees. Takes time linear in the vertex's arcs, but for the search for each
+    /// ghost's slot.
     pub fn greatest(&self, place: u32) -> u64
         requires place { place < length (part_in self.now).vertices }
         requires neighbours { HasNeighbours (part_in self.now) place }

@@ -1,4 +1,4 @@
-//! Whole runs over a graph.
+//! Whole runs of the search for the greatest degree.
 ghost use Rattle.std.specs.Prelude.{◌≡◌, ◌≤◌, IfOk, Some, length, slice_get};
 ghost use Rattle.pg_group.specs.Entries.{Each};
 ghost use Rattle.pg_adj.specs.Portions.{Portion};
@@ -16,9 +16,9 @@ use std::alloc::Global;
 use std::sync::Wait;
 use std::thread::Threads;
 
-/// The greatest degree of the graph, 0 where it has no vertex, found by this many ranks, among which the vertices are divided in
-/// blocks. The ranks are driven by `threads` threads, and a lane holds `capacity` messages. `OutOfMemory` comes only where
-/// memory is wanting.
+/// The greatest degree of the graph, 0 where it has no vertex, found by this many ranks, among which the vertices are
+/// divided in blocks. The ranks are driven by `threads` threads, and a lane holds `capacity` messages, 1 to 1024.
+/// `OutOfMemory` comes only where an allocation is refused.
 pub fn greatest_degree<W: Threads + Wait + Sync>(
     token: &W,
     alloc: Global,
@@ -56,8 +56,9 @@ pub fn greatest_degree_over<W: Threads + Wait + Sync, D: Distribution>(
     Ok(finished.programs[0].greatest())
 }
 
-/// Divides the graph and runs a program for each rank until all have ended. Each of them knows the greatest degree then. The
-/// programs and the lanes come back: every message was taken, and each program has kept its promise.
+/// Divides the graph and runs a program for each rank until all have ended. Each of them knows the greatest degree
+/// then. The programs and the lanes come back: every message was taken, and each program has kept its promise.
+/// `OutOfMemory` comes only where an allocation is refused.
 pub fn run_degrees<W: Threads + Wait + Sync, D: Distribution>(
     token: &W,
     alloc: Global,
