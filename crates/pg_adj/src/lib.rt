@@ -15,8 +15,6 @@ mod rows;
 mod shares;
 mod sizing;
 mod splitting;
-#[cfg(test)]
-mod tests;
 
 pub use arcs::{Arc, Ghost, Holder};
 pub use parts::Part;

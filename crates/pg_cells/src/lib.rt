@@ -16,8 +16,6 @@ mod refreshes;
 mod resolvers;
 mod sending;
 mod slots;
-#[cfg(test)]
-mod tests;
 
 pub use bodies::CellBody;
 pub use cells::Cells;

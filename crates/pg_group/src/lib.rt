@@ -12,8 +12,6 @@ mod outlanes;
 mod programs;
 mod rolls;
 mod sockets;
-#[cfg(test)]
-mod tests;
 
 pub use closing::close_ports;
 pub use groups::ports;

@@ -25,8 +25,3 @@ pub use parts_files::read_parts;
 
 /// The greatest length of a file in bytes.
 pub const MAX_FILE_BYTES: u64 = 536_870_912;
-
-#[cfg(test)]
-mod parts_tests;
-#[cfg(test)]
-mod tests;

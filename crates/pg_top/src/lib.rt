@@ -11,14 +11,10 @@ mod forests;
 mod gridding;
 mod inputs;
 pub mod laws;
-#[cfg(test)]
-mod pair_tests;
 mod pairs;
 mod relaxing;
 mod solving;
 mod tallying;
-#[cfg(test)]
-mod tests;
 mod weights;
 mod works;
 

@@ -8,8 +8,6 @@ mod needs;
 mod planning;
 mod plans;
 mod ranges;
-#[cfg(test)]
-mod tests;
 mod told;
 
 pub use planning::plan;
