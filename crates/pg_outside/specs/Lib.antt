@@ -1,9 +1,11 @@
 pub mod Counts
 pub mod Faults
+pub mod FileInputs
 pub mod Files
 pub mod Fronts
 pub mod MemoryInputs
 pub mod MemorySink
 pub mod NamedFiles
 pub mod OpenFile
+pub mod StdSink
 pub mod Written

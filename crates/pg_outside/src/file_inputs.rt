@@ -21,10 +21,12 @@ pub struct FileInputs<R: Files> {
 }
 
 impl<R: Files> FileInputs<R> {
+    ghost use Rattle.pg_outside.specs.FileInputs.{faults_of, is_begun};
+
     /// The files that this runtime reaches.
     pub fn new(rt: R) -> FileInputs<R>
-        ensures faults { result.faults ≡ 0 }
-        ensures begun { is_some result.file ≡ false }
+        ensures faults { faults_of result ≡ 0 }
+        ensures begun { is_begun result ≡ false }
     {
         FileInputs {
             rt,
@@ -35,6 +37,8 @@ impl<R: Files> FileInputs<R> {
 }
 
 impl<R: Files> Inputs for FileInputs<R> {
+    ghost use Rattle.pg_outside.specs.FileInputs.{faults_of, file_of, is_begun};
+
     ghost faults = { λ inputs. inputs.faults };
 
     ghost files = { λ _. None };
@@ -45,10 +49,10 @@ impl<R: Files> Inputs for FileInputs<R> {
 
     /// Opens the file of this name. An error of the system counts one fault, and no name is begun after it.
     fn begin(&mut self, name: &str) -> Result<(), Failed>
-        ensures later { self.old.faults ≤ self.new.faults }
-        ensures cause { OnErr result (Rose self.old.faults self.new.faults) }
-        ensures begun { is_some self.new.file ≡ is_ok result }
-        ensures count { self.new.faults ≡ counted_if (not (is_ok result)) self.old.faults }
+        ensures later { faults_of self.old ≤ faults_of self.new }
+        ensures cause { OnErr result (Rose (faults_of self.old) (faults_of self.new)) }
+        ensures begun { is_begun self.new ≡ is_ok result }
+        ensures count { faults_of self.new ≡ counted_if (not (is_ok result)) (faults_of self.old) }
     {
         match fs::open(&self.rt, name) {
             Ok(file) => {
@@ -64,14 +68,14 @@ impl<R: Files> Inputs for FileInputs<R> {
 
     /// One read of the file into the whole of `buf`. An error of the system counts one fault.
     fn read(&mut self, buf: &mut [u8]) -> Result<usize, Failed>
-        requires { IsTrue (is_some self.old.file) }
-        ensures later { self.old.faults ≤ self.new.faults }
-        ensures cause { OnErr result (Rose self.old.faults self.new.faults) }
+        requires { IsTrue (is_begun self.old) }
+        ensures later { faults_of self.old ≤ faults_of self.new }
+        ensures cause { OnErr result (Rose (faults_of self.old) (faults_of self.new)) }
         ensures within { IfOk result (λ n. n ≤ length buf.old) }
-        ensures bytes { ReadConsumes (left_of R.File.remaining self.old.file)
-            (left_of R.File.remaining self.new.file) result buf.new }
-        ensures begun { is_some self.new.file ≡ is_some self.old.file }
-        ensures count { self.new.faults ≡ counted_if (not (is_ok result)) self.old.faults }
+        ensures bytes { ReadConsumes (left_of R.File.remaining (file_of self.old))
+            (left_of R.File.remaining (file_of self.new)) result buf.new }
+        ensures begun { is_begun self.new ≡ is_begun self.old }
+        ensures count { faults_of self.new ≡ counted_if (not (is_ok result)) (faults_of self.old) }
     {
         let Some(file) = &mut self.file else {
             unreachable!()

@@ -18,26 +18,32 @@ pub struct StdSink<W> {
 }
 
 impl StdSink<Stdout> {
+    ghost use Rattle.pg_outside.specs.StdSink.{faults_of, stream_of};
+
     /// Standard output.
     pub fn output(stream: Stdout) -> StdSink<Stdout>
-        ensures stream { result.stream ≡ stream }
-        ensures faults { result.faults ≡ 0 }
+        ensures stream { stream_of result ≡ stream }
+        ensures faults { faults_of result ≡ 0 }
     {
         StdSink { stream, faults: 0 }
     }
 }
 
 impl StdSink<Stderr> {
+    ghost use Rattle.pg_outside.specs.StdSink.{faults_of, stream_of};
+
     /// Standard error.
     pub fn errors(stream: Stderr) -> StdSink<Stderr>
-        ensures stream { result.stream ≡ stream }
-        ensures faults { result.faults ≡ 0 }
+        ensures stream { stream_of result ≡ stream }
+        ensures faults { faults_of result ≡ 0 }
     {
         StdSink { stream, faults: 0 }
     }
 }
 
 impl<W: Write> Sink for StdSink<W> {
+    ghost use Rattle.pg_outside.specs.StdSink.{faults_of, stream_of};
+
     ghost faults = { λ sink. sink.faults };
 
     ghost text = { λ sink. W.contents sink.stream };
@@ -45,13 +51,13 @@ impl<W: Write> Sink for StdSink<W> {
     /// Writes the whole piece and flushes it. An error of the system, or a write that takes nothing of a
     /// piece that is not empty, ends the call and counts one fault.
     fn write_all(&mut self, bytes: &[u8]) -> Result<(), Failed>
-        ensures later { self.old.faults ≤ self.new.faults }
-        ensures cause { OnErr result (Rose self.old.faults self.new.faults) }
+        ensures later { faults_of self.old ≤ faults_of self.new }
+        ensures cause { OnErr result (Rose (faults_of self.old) (faults_of self.new)) }
         ensures ok { OnOk result
-            (Appends (W.contents self.old.stream) (W.contents self.new.stream) bytes.now) }
+            (Appends (W.contents (stream_of self.old)) (W.contents (stream_of self.new)) bytes.now) }
         ensures err { OnErr result
-            (AppendsFront (W.contents self.old.stream) (W.contents self.new.stream) bytes.now) }
-        ensures count { self.new.faults ≡ counted_if (not (is_ok result)) self.old.faults }
+            (AppendsFront (W.contents (stream_of self.old)) (W.contents (stream_of self.new)) bytes.now) }
+        ensures count { faults_of self.new ≡ counted_if (not (is_ok result)) (faults_of self.old) }
     {
         match write_and_flush(&mut self.stream, bytes) {
             Ok(()) => Ok(()),
