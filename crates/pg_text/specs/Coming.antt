@@ -6,6 +6,14 @@ use Rattle.pg_text.specs.Ahead.{Ahead, ahead_within}
 use Rattle.pg_text.specs.declared.readers.LineReader.{LineReader}
 use Rattle.pg_text.specs.declared.lines.Line.{Line}
 
+-- How many lines were taken.
+abbrev pub lines_taken : LineReader → ℕ
+lines_taken reader = reader.lines
+
+-- The line that was taken last.
+abbrev pub line_taken : LineReader → List ℕ
+line_taken reader = reader.line.items
+
 -- The bytes that the reader holds and has not yet taken.
 abbrev pub held : LineReader → List ℕ
 held reader = slice_range reader.piece.items reader.start reader.end

@@ -5,5 +5,6 @@ pub mod Answers
 pub mod Cuts
 pub mod Taking
 pub mod Giving
+pub mod Remaining
 pub mod Examples
 pub mod AheadLaws

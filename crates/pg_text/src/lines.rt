@@ -33,7 +33,7 @@ pub struct Lines<'a, I> {
 impl<'a, I: Inputs> Lines<'a, I> {
     ghost use Rattle.std.specs.Option.{option_map};
     ghost use Rattle.pg_text.specs.Ahead.{ahead_within};
-    ghost use Rattle.pg_text.specs.Giving.{ahead, given};
+    ghost use Rattle.pg_text.specs.Giving.{ahead, given, input_of, is_usable, limit_of, reference_of};
 
     /// The lines of the bytes that are left of the name that was begun last. No more than `limit` bytes are
     /// taken.
@@ -41,11 +41,11 @@ impl<'a, I: Inputs> Lines<'a, I> {
     pub fn new(inputs: &'a mut I, limit: u64) -> Lines<'a, I>
         requires begun { IsTrue (I.begun inputs.old) }
         requires few { limit < 2 ^ 64 - 1 }
-        ensures inputs { result.inputs.now ≡ inputs.old }
-        ensures same_reference { result.inputs.ghost_name ≡ inputs.entry.ghost_name }
+        ensures inputs { input_of result ≡ inputs.old }
+        ensures same_reference { reference_of result ≡ inputs.entry.ghost_name }
         ensures ahead { (left : Option (List ℕ)) → ahead result left ≡ option_map (ahead_within limit) left }
         ensures given { given result ≡ 0 }
-        ensures usable { result.usable ≡ true }
+        ensures usable { is_usable result ≡ true }
     {
         Lines {
             inputs,
@@ -61,22 +61,22 @@ impl<'a, I: Inputs> Lines<'a, I> {
     /// the front of a line may be lost, so no further one may be asked for. The input is still given back.
     #[tactic(auto, unfolding(crate::specs::Giving::ahead, crate::specs::Giving::given))]
     pub fn next(&mut self, alloc: Global) -> Result<Option<Line>, TextFault>
-        requires begun { IsTrue (I.begun self.old.inputs.now) }
-        requires usable { self.old.usable ≡ true }
-        ensures usable { self.new.usable ≡ is_ok result }
-        ensures same_reference { self.new.inputs.ghost_name ≡ self.old.inputs.ghost_name }
-        ensures limit { self.new.limit ≡ self.old.limit }
-        ensures later { I.faults self.old.inputs.now ≤ I.faults self.new.inputs.now }
-        ensures begun { I.begun self.new.inputs.now ≡ I.begun self.old.inputs.now }
-        ensures files { I.files self.new.inputs.now ≡ I.files self.old.inputs.now }
-        ensures ok { IfOk result (λ next. Told (ahead self.old (I.left self.old.inputs.now)) (ahead self.new (I.left self.new.inputs.now)) (Gives next)) }
-        ensures end { IfOk result (λ next. next ≡ None → IfSome (ahead self.old (I.left self.old.inputs.now)) (λ _. I.left self.new.inputs.now ≡ Some [])) }
+        requires begun { IsTrue (I.begun (input_of self.old)) }
+        requires usable { is_usable self.old ≡ true }
+        ensures usable { is_usable self.new ≡ is_ok result }
+        ensures same_reference { reference_of self.new ≡ reference_of self.old }
+        ensures limit { limit_of self.new ≡ limit_of self.old }
+        ensures later { I.faults (input_of self.old) ≤ I.faults (input_of self.new) }
+        ensures begun { I.begun (input_of self.new) ≡ I.begun (input_of self.old) }
+        ensures files { I.files (input_of self.new) ≡ I.files (input_of self.old) }
+        ensures ok { IfOk result (λ next. Told (ahead self.old (I.left (input_of self.old))) (ahead self.new (I.left (input_of self.new))) (Gives next)) }
+        ensures end { IfOk result (λ next. next ≡ None → IfSome (ahead self.old (I.left (input_of self.old))) (λ _. I.left (input_of self.new) ≡ Some [])) }
         ensures number { IfOk result (λ next. IfSome next (λ line. line.number ≡ given self.old + 1)) }
         ensures few { IfOk result (λ next. IfSome next (λ line. line.number < 2 ^ 64 - 1)) }
         ensures given { IfOk result (λ next. given self.new ≡ (if is_some next then given self.old + 1 else given self.old)) }
-        ensures too_long { OnTooLong result (λ line. IfSome (ahead self.old (I.left self.old.inputs.now)) (λ was. (line ≡ given self.old + 1) × (was.lines ≡ []) × (was.overlong ≡ true))) }
+        ensures too_long { OnTooLong result (λ line. IfSome (ahead self.old (I.left (input_of self.old))) (λ was. (line ≡ given self.old + 1) × (was.lines ≡ []) × (was.overlong ≡ true))) }
         ensures at { OnTooLong result (λ line. line ≡ given self.old + 1) }
-        ensures failed { OnFailed result (Rose (I.faults self.old.inputs.now) (I.faults self.new.inputs.now)) }
+        ensures failed { OnFailed result (Rose (I.faults (input_of self.old)) (I.faults (input_of self.new))) }
     {
         self.usable = false;
         let next = match &mut self.reader {
@@ -94,8 +94,8 @@ impl<'a, I: Inputs> Lines<'a, I> {
 
     /// Gives the input back. It may have been read beyond the lines that were given.
     pub fn into_inputs(self) -> &'a mut I
-        ensures same_reference { result.ghost_name ≡ self.entry.inputs.ghost_name }
-        ensures inputs { result.now ≡ self.entry.inputs.now }
+        ensures same_reference { result.ghost_name ≡ reference_of self.entry }
+        ensures inputs { result.now ≡ input_of self.entry }
     {
         let Lines { inputs, .. } = self;
         inputs

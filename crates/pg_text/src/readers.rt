@@ -35,7 +35,7 @@ impl LineReader {
     ghost use Rattle.pg_outside.specs.Faults.{Rose};
     ghost use Rattle.pg_text.specs.Ahead.{ahead_within};
     ghost use Rattle.pg_text.specs.Answers.{OnFailed, OnTooLong};
-    ghost use Rattle.pg_text.specs.Coming.{bytes_ahead, coming, held, IsDone, Takes, Told};
+    ghost use Rattle.pg_text.specs.Coming.{bytes_ahead, coming, held, line_taken, lines_taken, IsDone, Takes, Told};
     ghost use Rattle.pg_text.specs.Cuts.{IsNewlineAt, IsOverlong};
     ghost use Rattle.pg_text.specs.Taking.{FillsLine, HasMore, TakesPart};
 
@@ -44,7 +44,7 @@ impl LineReader {
     pub fn new(alloc: Global, limit: u64) -> Result<LineReader, AllocError>
         requires few { limit < 2 ^ 64 - 1 }
         ensures coming { IfOk result (λ reader. (left : Option (List ℕ)) → coming reader left ≡ option_map (ahead_within limit) left) }
-        ensures lines { IfOk result (λ reader. reader.lines ≡ 0) }
+        ensures lines { IfOk result (λ reader. lines_taken reader ≡ 0) }
     {
         let piece = vec![in alloc; 0u8; PIECE_BYTES]?;
         Ok(LineReader {
@@ -59,14 +59,14 @@ impl LineReader {
 
     /// The line that was taken last, without its newline.
     pub fn line(&self) -> &[u8]
-        ensures { result.now ≡ self.now.line.items }
+        ensures { result.now ≡ line_taken self.now }
     {
         self.line.as_slice()
     }
 
     /// The number of the line that was taken last, from 1: how many lines were taken.
     pub fn line_number(&self) -> u64
-        ensures number { result ≡ self.now.lines }
+        ensures number { result ≡ lines_taken self.now }
         ensures few { result < 2 ^ 64 - 1 }
     {
         self.lines
@@ -82,12 +82,12 @@ impl LineReader {
         ensures later { I.faults inputs.old ≤ I.faults inputs.new }
         ensures begun { I.begun inputs.new ≡ I.begun inputs.old }
         ensures files { I.files inputs.new ≡ I.files inputs.old }
-        ensures ok { IfOk result (λ more. Told (coming self.old (I.left inputs.old)) (coming self.new (I.left inputs.new)) (Takes more self.new.line.items)) }
+        ensures ok { IfOk result (λ more. Told (coming self.old (I.left inputs.old)) (coming self.new (I.left inputs.new)) (Takes more (line_taken self.new))) }
         ensures end { IfOk result (λ more. more ≡ false → IfSome (coming self.old (I.left inputs.old)) (λ _. I.left inputs.new ≡ Some [])) }
         ensures stays { IfOk result (λ more. more ≡ false → Told (coming self.old (I.left inputs.old)) (coming self.new (I.left inputs.new)) (λ _ now. IsDone now)) }
-        ensures lines { IfOk result (λ more. self.new.lines ≡ (if more then self.old.lines + 1 else self.old.lines)) }
-        ensures too_long { OnTooLong result (λ line. IfSome (coming self.old (I.left inputs.old)) (λ was. (line ≡ self.old.lines + 1) × (was.lines ≡ []) × (was.overlong ≡ true))) }
-        ensures at { OnTooLong result (λ line. line ≡ self.old.lines + 1) }
+        ensures lines { IfOk result (λ more. lines_taken self.new ≡ (if more then lines_taken self.old + 1 else lines_taken self.old)) }
+        ensures too_long { OnTooLong result (λ line. IfSome (coming self.old (I.left inputs.old)) (λ was. (line ≡ lines_taken self.old + 1) × (was.lines ≡ []) × (was.overlong ≡ true))) }
+        ensures at { OnTooLong result (λ line. line ≡ lines_taken self.old + 1) }
         ensures failed { OnFailed result (Rose (I.faults inputs.old) (I.faults inputs.new)) }
     {
         let ended = self.fill_line(inputs)?;

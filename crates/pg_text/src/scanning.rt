@@ -1,6 +1,7 @@
 //! Words and numbers of a line.
 ghost use Rattle.std.specs.Prelude.{◌≡◌, ◌≤◌, length, if◌then◌else◌, Some, None, IfSome};
 ghost use Rattle.std.specs.List.{list_all};
+ghost use Rattle.pg_text.specs.Remaining.{rest_of};
 ghost use Rattle.pg_text.specs.Text.{decimal_value, is_digit, number, words};
 
 use crate::Words;
@@ -10,7 +11,7 @@ const MOST_DIGITS: usize = 10;
 
 /// The words of `line`, in order. Source: METIS 5.1 manual, section 4.1.1.
 pub fn words(line: &[u8]) -> Words<'_>
-    ensures { words result.rest.now ≡ words line.now }
+    ensures { words (rest_of result) ≡ words line.now }
 {
     Words { rest: line }
 }
