@@ -14,6 +14,14 @@ pub record IsZeros (vote : Vote) : Type 0 where
   pub c : vote.c ≡ 0
   pub d : vote.d ≡ 0
 
+-- how many rounds it has
+abbrev pub rounds_of : Roll → ℕ
+rounds_of roll = roll.rounds
+
+-- how many messages it has taken, modulo 2^64
+abbrev pub taken_by : Roll → ℕ
+taken_by roll = roll.taken
+
 -- A roll of which nothing was called yet.
 pub record IsNewRoll (roll : Roll) : Type 0 where
   pub round : roll.round ≡ 0

@@ -35,7 +35,7 @@ const ZEROS: Vote = Vote {
 };
 
 impl Roll {
-    ghost use Rattle.pg_group.specs.Rolls.{IsNewRoll, SentToAll};
+    ghost use Rattle.pg_group.specs.Rolls.{IsNewRoll, SentToAll, rounds_of, taken_by};
 
     /// The roll of one rank of a group, for this many rounds, at least 1.
     pub fn new(rank: RankNo, ranks: Ranks, rounds: u32) -> Roll
@@ -44,7 +44,7 @@ impl Roll {
         ensures new { ⟦<Roll as Program>⟧.IsNew result }
         ensures own { ⟦<Roll as Program>⟧.own result ≡ rank.0 }
         ensures size { ⟦<Roll as Program>⟧.size result ≡ ranks }
-        ensures rounds { result.rounds ≡ rounds }
+        ensures rounds { rounds_of result ≡ rounds }
     {
         Roll {
             rank,
@@ -61,7 +61,7 @@ impl Roll {
 
     /// How many messages it has taken, modulo 2^64.
     pub fn taken(&self) -> u64
-        ensures { result ≡ self.now.taken }
+        ensures { result ≡ taken_by self.now }
     {
         self.taken
     }
@@ -88,7 +88,7 @@ impl Program for Roll {
     ghost use Rattle.pg_group.specs.declared.messages.Body.{Body};
     ghost use Rattle.pg_group.specs.declared.rolls.Roll.{Roll};
     ghost use Rattle.pg_group.specs.Supersteps.{append_marks, is_stop, OnAgain, OnStop};
-    ghost use Rattle.pg_group.specs.Rolls.{IsNewRoll, HasRolled, SentOne, CountedOne, DidNoItem, SentToAll, IsZeros};
+    ghost use Rattle.pg_group.specs.Rolls.{IsNewRoll, HasRolled, SentOne, CountedOne, DidNoItem, SentToAll, IsZeros, rounds_of};
 
     type Body = u32;
 
@@ -153,20 +153,20 @@ impl Program for Roll {
     }
 
     fn round_end(&mut self, _votes: &[Vote]) -> Next
-        requires running { self.old.ended ≡ false }
-        requires each { length _votes.now ≡ self.old.ranks }
-        requires mine { slice_get _votes.now self.old.rank.0 ≡ self.old.cast }
+        requires running { ⟦<Roll as Program>⟧.ended self.old ≡ false }
+        requires each { length _votes.now ≡ ⟦<Roll as Program>⟧.size self.old }
+        requires mine { slice_get _votes.now (⟦<Roll as Program>⟧.own self.old) ≡ ⟦<Roll as Program>⟧.cast self.old }
         ensures kept { (start : Roll) (handled sent : List (List (Body ℕ))) → HasRolled start handled sent self.old
-            → HasRolled start (append_marks self.old.rank.0 _votes.now handled) sent self.new }
-        ensures stops { is_stop result ≡ nat_eq (self.old.round + 1) self.old.rounds }
-        ensures stop { self.new.ended ≡ is_stop result }
-        ensures again { OnAgain result (self.new.round ≡ self.old.round + 1) }
-        ensures uncast { OnAgain result (self.new.cast ≡ None) }
-        ensures not_idle { OnAgain result (self.new.idle ≡ false) }
-        ensures last_round { OnStop result (self.new.round ≡ self.old.round) }
-        ensures last_vote { OnStop result (self.new.cast ≡ self.old.cast) }
-        ensures same_own { self.new.rank.0 ≡ self.old.rank.0 }
-        ensures same_size { self.new.ranks ≡ self.old.ranks }
+            → HasRolled start (append_marks (⟦<Roll as Program>⟧.own self.old) _votes.now handled) sent self.new }
+        ensures stops { is_stop result ≡ nat_eq (⟦<Roll as Program>⟧.round self.old + 1) (rounds_of self.old) }
+        ensures stop { ⟦<Roll as Program>⟧.ended self.new ≡ is_stop result }
+        ensures again { OnAgain result (⟦<Roll as Program>⟧.round self.new ≡ ⟦<Roll as Program>⟧.round self.old + 1) }
+        ensures uncast { OnAgain result (⟦<Roll as Program>⟧.cast self.new ≡ None) }
+        ensures not_idle { OnAgain result (⟦<Roll as Program>⟧.idle self.new ≡ false) }
+        ensures last_round { OnStop result (⟦<Roll as Program>⟧.round self.new ≡ ⟦<Roll as Program>⟧.round self.old) }
+        ensures last_vote { OnStop result (⟦<Roll as Program>⟧.cast self.new ≡ ⟦<Roll as Program>⟧.cast self.old) }
+        ensures same_own { ⟦<Roll as Program>⟧.own self.new ≡ ⟦<Roll as Program>⟧.own self.old }
+        ensures same_size { ⟦<Roll as Program>⟧.size self.new ≡ ⟦<Roll as Program>⟧.size self.old }
     {
         if self.round + 1 == self.rounds {
             self.ended = true;
