@@ -42,17 +42,19 @@ pub struct Buckets {
 }
 
 impl Buckets {
+    ghost use Rattle.pg_agenda.specs.BucketsShown.{place_count, bucket_list, heavy_flags, agreement, width};
+
     /// Places below `count`, none of them pending, in the light phase of bucket 0. `delta` is the width of a bucket,
     /// in units of weight, at least 1. Allocates all the memory that the agenda needs. `Err` says that the run is out
     /// of memory; it comes for more than 4,294,965,245 places too, since the lists' heads are numbered after them.
     pub fn new(alloc: Global, count: u32, delta: u32) -> Result<Buckets, OutOfMemory>
         requires { 1 ≤ delta }
-        ensures count { IfOk result (λ agenda. length agenda.light.buckets.items ≡ count) }
-        ensures light { IfOk result (λ agenda. (place : ℕ) → bucket_of agenda.light.buckets.items place ≡ NONE) }
-        ensures heavy { IfOk result (λ agenda. (place : ℕ) → is_set agenda.heavy.members.items place ≡ false) }
-        ensures bucket { IfOk result (λ agenda. agenda.agreed.bucket ≡ 0) }
-        ensures phase { IfOk result (λ agenda. agenda.agreed.light ≡ true) }
-        ensures delta { IfOk result (λ agenda. agenda.delta ≡ delta) }
+        ensures count { IfOk result (λ agenda. place_count agenda ≡ count) }
+        ensures light { IfOk result (λ agenda. (place : ℕ) → bucket_of (bucket_list agenda) place ≡ NONE) }
+        ensures heavy { IfOk result (λ agenda. (place : ℕ) → is_set (heavy_flags agenda) place ≡ false) }
+        ensures bucket { IfOk result (λ agenda. (agreement agenda).bucket ≡ 0) }
+        ensures phase { IfOk result (λ agenda. (agreement agenda).light ≡ true) }
+        ensures delta { IfOk result (λ agenda. width agenda ≡ delta) }
     {
         if count > u32::MAX - HEADS {
             return Err(OutOfMemory);
@@ -103,58 +105,59 @@ fn buckets_of(alloc: Global, count: u32, delta: u32) -> Result<Buckets, AllocErr
 }
 
 impl Agenda for Buckets {
-    ghost use Rattle.std.specs.Prelude.{◌≡◌, length};
-    ghost use Rattle.pg_agenda.specs.BucketPhases.{IsBucketVote, by_bucket, next_agreement, ready_by, takes_by};
+    ghost use Rattle.std.specs.Prelude.{◌≡◌};
+    ghost use Rattle.pg_agenda.specs.BucketPhases.{IsBucketVote, next_agreement, takes_by};
+    ghost use Rattle.pg_agenda.specs.BucketsShown.{place_count, bucket_list, heavy_flags, agreement, width, pending_places, ready_places};
 
-    ghost count = { λ a. length a.light.buckets.items };
+    ghost count = { place_count };
 
-    ghost pending = { λ a. by_bucket a.light.buckets.items a.heavy.members.items };
+    ghost pending = { pending_places };
 
-    ghost ready = { λ a. ready_by a.agreed a.light.buckets.items a.heavy.members.items };
+    ghost ready = { ready_places };
 
-    ghost takes = { λ a. takes_by a.delta };
+    ghost takes = { λ a. takes_by (width a) };
 
-    ghost IsVote = { λ a. IsBucketVote a.light.buckets.items a.heavy.members.items };
+    ghost IsVote = { λ a. IsBucketVote (bucket_list a) (heavy_flags a) };
 
-    ghost HasBegun = { λ old votes new. new.agreed ≡ next_agreement votes old.agreed };
+    ghost HasBegun = { λ old votes new. agreement new ≡ next_agreement votes (agreement old) };
 
     fn mark(&mut self, place: u32, amount: u64)
-        requires place { place < length self.old.light.buckets.items }
+        requires place { place < place_count self.old }
         requires amount { amount ≤ 1152921504606846976 }
-        ensures marked { (by_bucket self.new.light.buckets.items self.new.heavy.members.items All place ≡ true) ⊎ (by_bucket self.new.light.buckets.items self.new.heavy.members.items Light place ≡ true) }
-        ensures heavy { by_bucket self.new.light.buckets.items self.new.heavy.members.items Heavy place ≡ by_bucket self.old.light.buckets.items self.old.heavy.members.items Heavy place }
-        ensures others { (share : Share) (other : ℕ) → other ≢ place → by_bucket self.new.light.buckets.items self.new.heavy.members.items share other ≡ by_bucket self.old.light.buckets.items self.old.heavy.members.items share other }
-        ensures same_count { length self.new.light.buckets.items ≡ length self.old.light.buckets.items }
-        ensures same_takes { (share : Share) (w : ℕ) → takes_by self.new.delta share w ≡ takes_by self.old.delta share w }
-        ensures buckets { self.new.light.buckets.items ≡ slice_set self.old.light.buckets.items place (amount / self.old.delta) }
-        ensures same_heavy { self.new.heavy.members.items ≡ self.old.heavy.members.items }
-        ensures agreed { self.new.agreed ≡ self.old.agreed }
-        ensures delta { self.new.delta ≡ self.old.delta }
+        ensures marked { (pending_places self.new All place ≡ true) ⊎ (pending_places self.new Light place ≡ true) }
+        ensures heavy { pending_places self.new Heavy place ≡ pending_places self.old Heavy place }
+        ensures others { (share : Share) (other : ℕ) → other ≢ place → pending_places self.new share other ≡ pending_places self.old share other }
+        ensures same_count { place_count self.new ≡ place_count self.old }
+        ensures same_takes { (share : Share) (w : ℕ) → takes_by (width self.new) share w ≡ takes_by (width self.old) share w }
+        ensures buckets { bucket_list self.new ≡ slice_set (bucket_list self.old) place (amount / width self.old) }
+        ensures same_heavy { heavy_flags self.new ≡ heavy_flags self.old }
+        ensures agreed { agreement self.new ≡ agreement self.old }
+        ensures delta { width self.new ≡ width self.old }
     {
         self.light.put(place, amount / u64::from(self.delta));
     }
 
     fn pop(&mut self) -> Option<(u32, Share)>
-        ensures none { IfNone result (AreNone (ready_by self.old.agreed self.old.light.buckets.items self.old.heavy.members.items)) }
-        ensures still { IfNone result (AreNone (ready_by self.new.agreed self.new.light.buckets.items self.new.heavy.members.items)) }
-        ensures ready { IfSome result (λ got. ready_by self.old.agreed self.old.light.buckets.items self.old.heavy.members.items got.1 got.0 ≡ true) }
-        ensures pending { IfSome result (λ got. by_bucket self.old.light.buckets.items self.old.heavy.members.items got.1 got.0 ≡ true) }
-        ensures within { IfSome result (λ got. got.0 < length self.old.light.buckets.items) }
-        ensures taken { IfSome result (λ got. by_bucket self.new.light.buckets.items self.new.heavy.members.items got.1 got.0 ≡ false) }
-        ensures heavy { IfSome result (λ got. got.1 ≡ Light → by_bucket self.new.light.buckets.items self.new.heavy.members.items Heavy got.0 ≡ true) }
-        ensures shares { IfSome result (λ got. (share : Share) → share ≢ got.1 → (got.1 ≡ Light → share ≢ Heavy) → by_bucket self.new.light.buckets.items self.new.heavy.members.items share got.0 ≡ by_bucket self.old.light.buckets.items self.old.heavy.members.items share got.0) }
-        ensures others { IfSome result (λ got. (share : Share) (other : ℕ) → other ≢ got.0 → by_bucket self.new.light.buckets.items self.new.heavy.members.items share other ≡ by_bucket self.old.light.buckets.items self.old.heavy.members.items share other) }
-        ensures rests { IfNone result (AreSame (by_bucket self.old.light.buckets.items self.old.heavy.members.items) (by_bucket self.new.light.buckets.items self.new.heavy.members.items)) }
-        ensures whole { (w : ℕ) → takes_by self.old.delta All w ≡ true }
-        ensures halves { (w : ℕ) → (takes_by self.old.delta Light w ≡ true) ⊎ (takes_by self.old.delta Heavy w ≡ true) }
-        ensures same_count { length self.new.light.buckets.items ≡ length self.old.light.buckets.items }
-        ensures same_takes { (share : Share) (w : ℕ) → takes_by self.new.delta share w ≡ takes_by self.old.delta share w }
-        ensures same_buckets { IfNone result (self.new.light.buckets.items ≡ self.old.light.buckets.items) }
-        ensures same_heavy { IfNone result (self.new.heavy.members.items ≡ self.old.heavy.members.items) }
-        ensures buckets { IfSome result (λ got. self.new.light.buckets.items ≡ (if self.old.agreed.light then slice_set self.old.light.buckets.items got.0 NONE else self.old.light.buckets.items)) }
-        ensures flags { IfSome result (λ got. self.new.heavy.members.items ≡ slice_set self.old.heavy.members.items got.0 self.old.agreed.light) }
-        ensures agreed { self.new.agreed ≡ self.old.agreed }
-        ensures delta { self.new.delta ≡ self.old.delta }
+        ensures none { IfNone result (AreNone (ready_places self.old)) }
+        ensures still { IfNone result (AreNone (ready_places self.new)) }
+        ensures ready { IfSome result (λ got. ready_places self.old got.1 got.0 ≡ true) }
+        ensures pending { IfSome result (λ got. pending_places self.old got.1 got.0 ≡ true) }
+        ensures within { IfSome result (λ got. got.0 < place_count self.old) }
+        ensures taken { IfSome result (λ got. pending_places self.new got.1 got.0 ≡ false) }
+        ensures heavy { IfSome result (λ got. got.1 ≡ Light → pending_places self.new Heavy got.0 ≡ true) }
+        ensures shares { IfSome result (λ got. (share : Share) → share ≢ got.1 → (got.1 ≡ Light → share ≢ Heavy) → pending_places self.new share got.0 ≡ pending_places self.old share got.0) }
+        ensures others { IfSome result (λ got. (share : Share) (other : ℕ) → other ≢ got.0 → pending_places self.new share other ≡ pending_places self.old share other) }
+        ensures rests { IfNone result (AreSame (pending_places self.old) (pending_places self.new)) }
+        ensures whole { (w : ℕ) → takes_by (width self.old) All w ≡ true }
+        ensures halves { (w : ℕ) → (takes_by (width self.old) Light w ≡ true) ⊎ (takes_by (width self.old) Heavy w ≡ true) }
+        ensures same_count { place_count self.new ≡ place_count self.old }
+        ensures same_takes { (share : Share) (w : ℕ) → takes_by (width self.new) share w ≡ takes_by (width self.old) share w }
+        ensures same_buckets { IfNone result (bucket_list self.new ≡ bucket_list self.old) }
+        ensures same_heavy { IfNone result (heavy_flags self.new ≡ heavy_flags self.old) }
+        ensures buckets { IfSome result (λ got. bucket_list self.new ≡ (if (agreement self.old).light then slice_set (bucket_list self.old) got.0 NONE else bucket_list self.old)) }
+        ensures flags { IfSome result (λ got. heavy_flags self.new ≡ slice_set (heavy_flags self.old) got.0 (agreement self.old).light) }
+        ensures agreed { agreement self.new ≡ agreement self.old }
+        ensures delta { width self.new ≡ width self.old }
     {
         if self.agreed.light {
             let place = self.take_light()?;
@@ -174,20 +177,20 @@ impl Agenda for Buckets {
     }
 
     fn vote(&mut self, sent: bool) -> Vote
-        ensures form { IsBucketVote self.old.light.buckets.items self.old.heavy.members.items sent result }
+        ensures form { IsBucketVote (bucket_list self.old) (heavy_flags self.old) sent result }
         ensures odd { (result.b % 2 ≡ 1) ↔ (sent ≡ true) }
-        ensures none { result.a ≡ NONE → result.b < 2 → AreNone (by_bucket self.old.light.buckets.items self.old.heavy.members.items) }
+        ensures none { result.a ≡ NONE → result.b < 2 → AreNone (pending_places self.old) }
         ensures c { result.c ≡ 0 }
         ensures d { result.d ≡ 0 }
-        ensures rests { AreSame (by_bucket self.old.light.buckets.items self.old.heavy.members.items) (by_bucket self.new.light.buckets.items self.new.heavy.members.items) }
-        ensures same_count { length self.new.light.buckets.items ≡ length self.old.light.buckets.items }
-        ensures same_takes { (share : Share) (w : ℕ) → takes_by self.new.delta share w ≡ takes_by self.old.delta share w }
-        ensures lowest { IsLowest self.old.light.buckets.items result.a }
-        ensures told { result.b ≡ (if sent then 1 else 0) + (if is_any self.old.heavy.members.items then 2 else 0) }
-        ensures same_buckets { self.new.light.buckets.items ≡ self.old.light.buckets.items }
-        ensures same_heavy { self.new.heavy.members.items ≡ self.old.heavy.members.items }
-        ensures agreed { self.new.agreed ≡ self.old.agreed }
-        ensures delta { self.new.delta ≡ self.old.delta }
+        ensures rests { AreSame (pending_places self.old) (pending_places self.new) }
+        ensures same_count { place_count self.new ≡ place_count self.old }
+        ensures same_takes { (share : Share) (w : ℕ) → takes_by (width self.new) share w ≡ takes_by (width self.old) share w }
+        ensures lowest { IsLowest (bucket_list self.old) result.a }
+        ensures told { result.b ≡ (if sent then 1 else 0) + (if is_any (heavy_flags self.old) then 2 else 0) }
+        ensures same_buckets { bucket_list self.new ≡ bucket_list self.old }
+        ensures same_heavy { heavy_flags self.new ≡ heavy_flags self.old }
+        ensures agreed { agreement self.new ≡ agreement self.old }
+        ensures delta { width self.new ≡ width self.old }
     {
         let heavy = if self.heavy.is_empty() { 0 } else { 2 };
         Vote {
@@ -199,14 +202,14 @@ impl Agenda for Buckets {
     }
 
     fn begin(&mut self, votes: &[Vote])
-        ensures begun { self.new.agreed ≡ next_agreement votes.now self.old.agreed }
-        ensures rests { AreSame (by_bucket self.old.light.buckets.items self.old.heavy.members.items) (by_bucket self.new.light.buckets.items self.new.heavy.members.items) }
-        ensures same_count { length self.new.light.buckets.items ≡ length self.old.light.buckets.items }
-        ensures same_takes { (share : Share) (w : ℕ) → takes_by self.new.delta share w ≡ takes_by self.old.delta share w }
-        ensures agreed { self.new.agreed ≡ next_agreement votes.now self.old.agreed }
-        ensures same_buckets { self.new.light.buckets.items ≡ self.old.light.buckets.items }
-        ensures same_heavy { self.new.heavy.members.items ≡ self.old.heavy.members.items }
-        ensures delta { self.new.delta ≡ self.old.delta }
+        ensures begun { agreement self.new ≡ next_agreement votes.now (agreement self.old) }
+        ensures rests { AreSame (pending_places self.old) (pending_places self.new) }
+        ensures same_count { place_count self.new ≡ place_count self.old }
+        ensures same_takes { (share : Share) (w : ℕ) → takes_by (width self.new) share w ≡ takes_by (width self.old) share w }
+        ensures agreed { agreement self.new ≡ next_agreement votes.now (agreement self.old) }
+        ensures same_buckets { bucket_list self.new ≡ bucket_list self.old }
+        ensures same_heavy { heavy_flags self.new ≡ heavy_flags self.old }
+        ensures delta { width self.new ≡ width self.old }
     {
         self.agreed = self.agreed.after(votes);
         self.light.show(self.agreed.bucket);

@@ -27,11 +27,13 @@ pub struct Levels {
 }
 
 impl Levels {
+    ghost use Rattle.pg_agenda.specs.LevelsShown.{place_count, pending_flags};
+
     /// Places below `count`, none of them pending. Allocates all the memory that the agenda needs. `Err` says that the
     /// run is out of memory.
     pub fn new(alloc: Global, count: u32) -> Result<Levels, OutOfMemory>
-        ensures count { IfOk result (λ levels. length levels.pending.items ≡ count) }
-        ensures none { IfOk result (λ levels. (place : ℕ) → is_set levels.pending.items place ≡ false) }
+        ensures count { IfOk result (λ levels. place_count levels ≡ count) }
+        ensures none { IfOk result (λ levels. (place : ℕ) → is_set (pending_flags levels) place ≡ false) }
     {
         match levels_of(alloc, count as usize) {
             Ok(levels) => Ok(levels),
@@ -99,51 +101,52 @@ fn levels_of(alloc: Global, count: usize) -> Result<Levels, AllocError>
 }
 
 impl Agenda for Levels {
-    ghost use Rattle.std.specs.Prelude.{length, true};
-    ghost use Rattle.pg_agenda.specs.Shares.{AreSame, only_all, takes_all};
-    ghost use Rattle.pg_agenda.specs.LevelLists.{IsLevelVote, is_set, is_in};
+    ghost use Rattle.std.specs.Prelude.{true};
+    ghost use Rattle.pg_agenda.specs.Shares.{AreSame, takes_all};
+    ghost use Rattle.pg_agenda.specs.LevelLists.{IsLevelVote, is_set};
+    ghost use Rattle.pg_agenda.specs.LevelsShown.{place_count, pending_flags, this_level, next_level, pending_places, ready_places};
 
-    ghost count = { λ a. length a.pending.items };
+    ghost count = { place_count };
 
-    ghost pending = { λ a. only_all (is_set a.pending.items) };
+    ghost pending = { pending_places };
 
-    ghost ready = { λ a. only_all (is_in a.this.items) };
+    ghost ready = { ready_places };
 
     ghost takes = { λ _. takes_all };
 
-    ghost IsVote = { λ a. IsLevelVote a.pending.items };
+    ghost IsVote = { λ a. IsLevelVote (pending_flags a) };
 
-    ghost HasBegun = { λ old votes new. AreSame (only_all (is_set old.pending.items)) (only_all (is_in new.this.items)) };
+    ghost HasBegun = { λ old votes new. AreSame (pending_places old) (ready_places new) };
 
     fn mark(&mut self, place: u32, _amount: u64)
-        requires place { place < length self.old.pending.items }
-        ensures marked { (only_all (is_set self.new.pending.items) All place ≡ true) ⊎ (only_all (is_set self.new.pending.items) Light place ≡ true) }
-        ensures heavy { only_all (is_set self.new.pending.items) Heavy place ≡ only_all (is_set self.old.pending.items) Heavy place }
-        ensures others { (share : Share) (other : ℕ) → other ≢ place → only_all (is_set self.new.pending.items) share other ≡ only_all (is_set self.old.pending.items) share other }
-        ensures same_count { length self.new.pending.items ≡ length self.old.pending.items }
+        requires place { place < place_count self.old }
+        ensures marked { (pending_places self.new All place ≡ true) ⊎ (pending_places self.new Light place ≡ true) }
+        ensures heavy { pending_places self.new Heavy place ≡ pending_places self.old Heavy place }
+        ensures others { (share : Share) (other : ℕ) → other ≢ place → pending_places self.new share other ≡ pending_places self.old share other }
+        ensures same_count { place_count self.new ≡ place_count self.old }
         ensures same_takes { (share : Share) (w : ℕ) → takes_all share w ≡ takes_all share w }
-        ensures whole { is_set self.new.pending.items place ≡ true }
-        ensures same_level { self.new.this.items ≡ self.old.this.items }
-        ensures stays { is_set self.old.pending.items place ≡ true → self.new.next.items ≡ self.old.next.items }
-        ensures joins { is_set self.old.pending.items place ≡ false → self.new.next.items ≡ self.old.next.items ++ place ∷ [] }
+        ensures whole { is_set (pending_flags self.new) place ≡ true }
+        ensures same_level { this_level self.new ≡ this_level self.old }
+        ensures stays { is_set (pending_flags self.old) place ≡ true → next_level self.new ≡ next_level self.old }
+        ensures joins { is_set (pending_flags self.old) place ≡ false → next_level self.new ≡ next_level self.old ++ place ∷ [] }
     {
         self.put(place);
     }
 
     fn pop(&mut self) -> Option<(u32, Share)>
-        ensures none { IfNone result (AreNone (only_all (is_in self.old.this.items))) }
-        ensures still { IfNone result (AreNone (only_all (is_in self.new.this.items))) }
-        ensures ready { IfSome result (λ got. only_all (is_in self.old.this.items) got.1 got.0 ≡ true) }
-        ensures pending { IfSome result (λ got. only_all (is_set self.old.pending.items) got.1 got.0 ≡ true) }
-        ensures within { IfSome result (λ got. got.0 < length self.old.pending.items) }
-        ensures taken { IfSome result (λ got. only_all (is_set self.new.pending.items) got.1 got.0 ≡ false) }
-        ensures heavy { IfSome result (λ got. got.1 ≡ Light → only_all (is_set self.new.pending.items) Heavy got.0 ≡ true) }
-        ensures shares { IfSome result (λ got. (share : Share) → share ≢ got.1 → (got.1 ≡ Light → share ≢ Heavy) → only_all (is_set self.new.pending.items) share got.0 ≡ only_all (is_set self.old.pending.items) share got.0) }
-        ensures others { IfSome result (λ got. (share : Share) (other : ℕ) → other ≢ got.0 → only_all (is_set self.new.pending.items) share other ≡ only_all (is_set self.old.pending.items) share other) }
-        ensures rests { IfNone result (AreSame (only_all (is_set self.old.pending.items)) (only_all (is_set self.new.pending.items))) }
+        ensures none { IfNone result (AreNone (ready_places self.old)) }
+        ensures still { IfNone result (AreNone (ready_places self.new)) }
+        ensures ready { IfSome result (λ got. ready_places self.old got.1 got.0 ≡ true) }
+        ensures pending { IfSome result (λ got. pending_places self.old got.1 got.0 ≡ true) }
+        ensures within { IfSome result (λ got. got.0 < place_count self.old) }
+        ensures taken { IfSome result (λ got. pending_places self.new got.1 got.0 ≡ false) }
+        ensures heavy { IfSome result (λ got. got.1 ≡ Light → pending_places self.new Heavy got.0 ≡ true) }
+        ensures shares { IfSome result (λ got. (share : Share) → share ≢ got.1 → (got.1 ≡ Light → share ≢ Heavy) → pending_places self.new share got.0 ≡ pending_places self.old share got.0) }
+        ensures others { IfSome result (λ got. (share : Share) (other : ℕ) → other ≢ got.0 → pending_places self.new share other ≡ pending_places self.old share other) }
+        ensures rests { IfNone result (AreSame (pending_places self.old) (pending_places self.new)) }
         ensures whole { (w : ℕ) → takes_all All w ≡ true }
         ensures halves { (w : ℕ) → (takes_all Light w ≡ true) ⊎ (takes_all Heavy w ≡ true) }
-        ensures same_count { length self.new.pending.items ≡ length self.old.pending.items }
+        ensures same_count { place_count self.new ≡ place_count self.old }
         ensures same_takes { (share : Share) (w : ℕ) → takes_all share w ≡ takes_all share w }
         ensures share { IfSome result (λ got. got.1 ≡ All) }
     {
@@ -158,18 +161,18 @@ impl Agenda for Levels {
     }
 
     fn vote(&mut self, sent: bool) -> Vote
-        ensures form { IsLevelVote self.old.pending.items sent result }
+        ensures form { IsLevelVote (pending_flags self.old) sent result }
         ensures odd { (result.b % 2 ≡ 1) ↔ (sent ≡ true) }
-        ensures none { result.a ≡ NONE → result.b < 2 → AreNone (only_all (is_set self.old.pending.items)) }
+        ensures none { result.a ≡ NONE → result.b < 2 → AreNone (pending_places self.old) }
         ensures c { result.c ≡ 0 }
         ensures d { result.d ≡ 0 }
-        ensures rests { AreSame (only_all (is_set self.old.pending.items)) (only_all (is_set self.new.pending.items)) }
-        ensures same_count { length self.new.pending.items ≡ length self.old.pending.items }
+        ensures rests { AreSame (pending_places self.old) (pending_places self.new) }
+        ensures same_count { place_count self.new ≡ place_count self.old }
         ensures same_takes { (share : Share) (w : ℕ) → takes_all share w ≡ takes_all share w }
-        ensures some_pending { (place : ℕ) → is_set self.old.pending.items place ≡ true → result.a ≡ 0 }
-        ensures none_pending { ((place : ℕ) → is_set self.old.pending.items place ≡ false) → result.a ≡ NONE }
+        ensures some_pending { (place : ℕ) → is_set (pending_flags self.old) place ≡ true → result.a ≡ 0 }
+        ensures none_pending { ((place : ℕ) → is_set (pending_flags self.old) place ≡ false) → result.a ≡ NONE }
         ensures told { result.b ≡ (if sent then 1 else 0) }
-        ensures same_level { self.new.this.items ≡ self.old.this.items }
+        ensures same_level { this_level self.new ≡ this_level self.old }
     {
         Vote {
             a: if self.is_pending() { 0 } else { u64::MAX },
@@ -180,11 +183,11 @@ impl Agenda for Levels {
     }
 
     fn begin(&mut self, _votes: &[Vote])
-        ensures begun { AreSame (only_all (is_set self.old.pending.items)) (only_all (is_in self.new.this.items)) }
-        ensures rests { AreSame (only_all (is_set self.old.pending.items)) (only_all (is_set self.new.pending.items)) }
-        ensures same_count { length self.new.pending.items ≡ length self.old.pending.items }
+        ensures begun { AreSame (pending_places self.old) (ready_places self.new) }
+        ensures rests { AreSame (pending_places self.old) (pending_places self.new) }
+        ensures same_count { place_count self.new ≡ place_count self.old }
         ensures same_takes { (share : Share) (w : ℕ) → takes_all share w ≡ takes_all share w }
-        ensures ready { AreSame (only_all (is_set self.old.pending.items)) (only_all (is_in self.new.this.items)) }
+        ensures ready { AreSame (pending_places self.old) (ready_places self.new) }
     {
         self.advance();
     }
