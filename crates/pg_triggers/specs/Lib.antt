@@ -3,3 +3,4 @@ pub mod Mine
 pub mod Paired
 pub mod Posts
 pub mod Votes
+pub mod Shown

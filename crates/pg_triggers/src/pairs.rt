@@ -40,6 +40,8 @@ pub struct Pair<A: Narrow, B: Narrow> {
 }
 
 impl<A: Narrow, B: Narrow> Pair<A, B> {
+    ghost use Rattle.pg_triggers.specs.Shown.{first_of, second_of};
+
     /// The pair of two new programs of one rank in one group, which is a new program of that rank.
     pub fn new(first: A, second: B) -> Pair<A, B>
         requires first_new { A.IsNew first }
@@ -49,8 +51,8 @@ impl<A: Narrow, B: Narrow> Pair<A, B> {
         ensures new { ⟦<Pair<A, B> as Program>⟧.IsNew result }
         ensures own { ⟦<Pair<A, B> as Program>⟧.own result ≡ A.own first }
         ensures size { ⟦<Pair<A, B> as Program>⟧.size result ≡ A.size first }
-        ensures first { result.first ≡ first }
-        ensures second { result.second ≡ second }
+        ensures first { first_of result ≡ first }
+        ensures second { second_of result ≡ second }
     {
         let _first = first.rank();
         let _second = second.rank();
@@ -66,8 +68,8 @@ impl<A: Narrow, B: Narrow> Pair<A, B> {
     /// The first member. All ranks of a group have ended it with the same round, where its stop is decided by
     /// one rule over the round's number and the votes.
     pub fn first(&self) -> &A
-        ensures value { result.now ≡ self.now.first }
-        ensures same_end { EndsAlike ⟦<Pair<A, B> as Program>⟧ ⟦<A as Program>⟧ (λ pair. pair.first) self.now }
+        ensures value { result.now ≡ first_of self.now }
+        ensures same_end { EndsAlike ⟦<Pair<A, B> as Program>⟧ ⟦<A as Program>⟧ first_of self.now }
     {
         &self.first
     }
@@ -75,8 +77,8 @@ impl<A: Narrow, B: Narrow> Pair<A, B> {
     /// The second member. All ranks of a group have ended it with the same round, where its stop is decided by
     /// one rule over the round's number and the votes.
     pub fn second(&self) -> &B
-        ensures value { result.now ≡ self.now.second }
-        ensures same_end { EndsAlike ⟦<Pair<A, B> as Program>⟧ ⟦<B as Program>⟧ (λ pair. pair.second) self.now }
+        ensures value { result.now ≡ second_of self.now }
+        ensures same_end { EndsAlike ⟦<Pair<A, B> as Program>⟧ ⟦<B as Program>⟧ second_of self.now }
     {
         &self.second
     }
@@ -89,6 +91,7 @@ impl<A: Narrow, B: Narrow> Program for Pair<A, B> {
     ghost use Rattle.pg_group.specs.Supersteps.{append_others};
     ghost use Rattle.pg_triggers.specs.Mine.{first_vote, second_vote};
     ghost use Rattle.pg_triggers.specs.Paired.{BothKeep, FirstDid, SecondDid, OnMember};
+    ghost use Rattle.pg_triggers.specs.Shown.{first_ended, second_ended};
     ghost use Rattle.pg_group.specs.declared.messages.Vote.{Vote};
 
     type Body = Of2<A::Body, B::Body>;
@@ -163,15 +166,15 @@ impl<A: Narrow, B: Narrow> Program for Pair<A, B> {
 
     fn vote(&mut self) -> Vote
         requires idle { ⟦<Pair<A, B> as Program>⟧.idle self.old ≡ true }
-        requires uncast { self.old.vote ≡ None }
+        requires uncast { ⟦<Pair<A, B> as Program>⟧.cast self.old ≡ None }
         ensures kept { (start : _) (handled sent : List (List (Body _))) → ⟦<Pair<A, B> as Program>⟧.Keeps start handled sent self.old
-            → ⟦<Pair<A, B> as Program>⟧.Keeps start handled (append_others (A.own self.old.first) (Mark result) sent) self.new }
-        ensures cast { self.new.vote ≡ Some result }
+            → ⟦<Pair<A, B> as Program>⟧.Keeps start handled (append_others (⟦<Pair<A, B> as Program>⟧.own self.old) (Mark result) sent) self.new }
+        ensures cast { ⟦<Pair<A, B> as Program>⟧.cast self.new ≡ Some result }
         ensures form { ⟦<Pair<A, B> as Program>⟧.IsVote result }
-        ensures first_votes { self.old.first_ended ≡ false → A.IsVote (first_vote result) }
-        ensures first_rests { self.old.first_ended ≡ true → IsResting result.a result.b }
-        ensures second_votes { self.old.second_ended ≡ false → B.IsVote (second_vote result) }
-        ensures second_rests { self.old.second_ended ≡ true → IsResting result.c result.d }
+        ensures first_votes { first_ended self.old ≡ false → A.IsVote (first_vote result) }
+        ensures first_rests { first_ended self.old ≡ true → IsResting result.a result.b }
+        ensures second_votes { second_ended self.old ≡ false → B.IsVote (second_vote result) }
+        ensures second_rests { second_ended self.old ≡ true → IsResting result.c result.d }
         ensures same_own { ⟦<Pair<A, B> as Program>⟧.own self.new ≡ ⟦<Pair<A, B> as Program>⟧.own self.old }
         ensures same_size { ⟦<Pair<A, B> as Program>⟧.size self.new ≡ ⟦<Pair<A, B> as Program>⟧.size self.old }
         ensures same_round { ⟦<Pair<A, B> as Program>⟧.round self.new ≡ ⟦<Pair<A, B> as Program>⟧.round self.old }
