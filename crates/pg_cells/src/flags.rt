@@ -22,6 +22,8 @@ pub struct Flags {
 pub struct BadFlags;
 
 impl Flags {
+    ghost use Rattle.pg_cells.specs.Shown.{has_forward, has_backward, has_flush, has_reset, has_clear};
+
     /// The consistency model with these flags:
     ///
     /// - `forward`: what is put to a ghost goes to its owner.
@@ -41,11 +43,11 @@ impl Flags {
     ) -> Result<Flags, BadFlags>
         ensures permitted { IfOk result (λ _. contradicts forward backward flush reset clear ≡ false) }
         ensures refused { OnErr result (contradicts forward backward flush reset clear ≡ true) }
-        ensures forward { IfOk result (λ flags. flags.forward ≡ forward) }
-        ensures backward { IfOk result (λ flags. flags.backward ≡ backward) }
-        ensures flush { IfOk result (λ flags. flags.flush ≡ flush) }
-        ensures reset { IfOk result (λ flags. flags.reset ≡ reset) }
-        ensures clear { IfOk result (λ flags. flags.clear ≡ clear) }
+        ensures forward { IfOk result (λ flags. has_forward flags ≡ forward) }
+        ensures backward { IfOk result (λ flags. has_backward flags ≡ backward) }
+        ensures flush { IfOk result (λ flags. has_flush flags ≡ flush) }
+        ensures reset { IfOk result (λ flags. has_reset flags ≡ reset) }
+        ensures clear { IfOk result (λ flags. has_clear flags ≡ clear) }
     {
         if forward && flush || backward && (reset || clear) || reset && clear {
             return Err(BadFlags);
@@ -61,11 +63,11 @@ impl Flags {
 
     /// The consistency model with forward and backward, and no other flag.
     pub fn bidirectional() -> Flags
-        ensures forward { result.forward ≡ true }
-        ensures backward { result.backward ≡ true }
-        ensures flush { result.flush ≡ false }
-        ensures reset { result.reset ≡ false }
-        ensures clear { result.clear ≡ false }
+        ensures forward { has_forward result ≡ true }
+        ensures backward { has_backward result ≡ true }
+        ensures flush { has_flush result ≡ false }
+        ensures reset { has_reset result ≡ false }
+        ensures clear { has_clear result ≡ false }
     {
         Flags {
             forward: true,

@@ -2,7 +2,7 @@
 ghost use Rattle.std.specs.Prelude.{◌≡◌, ◌<◌, None, length, slice_index, slice_index_or};
 ghost use Rattle.pg_cells.specs.Steps.{CellsStep, join_own};
 ghost use Rattle.pg_cells.specs.Steps.Event.{put};
-ghost use Rattle.pg_cells.specs.Shown.{state_of};
+ghost use Rattle.pg_cells.specs.Shown.{SamePart, resolver_of, state_of};
 ghost use Rattle.pg_cells.specs.declared.phases.Phase.TheVariants.{Filling};
 
 use crate::{Cells, Resolver};
@@ -10,7 +10,7 @@ use crate::{Cells, Resolver};
 impl<R: Resolver> Cells<R> {
     /// The value of the own vertex at the place, from 0.
     pub fn at_place(&self, place: u32) -> u64
-        requires { place < length self.now.part.value.vertices }
+        requires { place < length (state_of self.now).part.vertices }
         ensures { result ≡ slice_index (state_of self.now).own place }
     {
         self.own[place as usize]
@@ -19,7 +19,7 @@ impl<R: Resolver> Cells<R> {
     /// The value of the ghost in the slot, from 0. `None` comes exactly where the ghost was emptied and was neither put
     /// to nor refreshed since.
     pub fn at_slot(&self, slot: u32) -> Option<u64>
-        requires { slot < length self.now.part.value.ghosts }
+        requires { slot < length (state_of self.now).part.ghosts }
         ensures { result ≡ slice_index_or (state_of self.now).ghosts slot None }
     {
         self.ghosts[slot as usize]
@@ -27,13 +27,13 @@ impl<R: Resolver> Cells<R> {
 
     /// Puts `x` to the own vertex at the place, from 0: the cell's value and `x` are joined. All other cells stay.
     pub fn put_at(&mut self, place: u32, x: u64)
-        requires below { place < length self.old.part.value.vertices }
-        requires filling { self.old.phase ≡ Filling }
-        ensures step { CellsStep (R.join self.old.resolver) (R.start self.old.resolver) (state_of self.old) (put (slice_index self.old.part.value.vertices place) x) (state_of self.new) }
-        ensures state { state_of self.new ≡ join_own (R.join self.old.resolver) (R.start self.old.resolver) place x (state_of self.old) }
-        ensures resolver { self.new.resolver ≡ self.old.resolver }
-        ensures part { self.new.part ≡ self.old.part }
-        ensures phase { self.new.phase ≡ self.old.phase }
+        requires below { place < length (state_of self.old).part.vertices }
+        requires filling { (state_of self.old).phase ≡ Filling }
+        ensures step { CellsStep (R.join (resolver_of self.old)) (R.start (resolver_of self.old)) (state_of self.old) (put (slice_index (state_of self.old).part.vertices place) x) (state_of self.new) }
+        ensures state { state_of self.new ≡ join_own (R.join (resolver_of self.old)) (R.start (resolver_of self.old)) place x (state_of self.old) }
+        ensures resolver { resolver_of self.new ≡ resolver_of self.old }
+        ensures part { SamePart self.old self.new }
+        ensures phase { (state_of self.new).phase ≡ (state_of self.old).phase }
     {
         self.join_own(place, x);
     }

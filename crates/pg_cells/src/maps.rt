@@ -4,7 +4,7 @@ ghost use Rattle.std.specs.Prelude.{◌≡◌, ◌↔◌, ◌<◌, true, false, 
 ghost use Rattle.pg_cells.specs.States.{new_cells, IsKnown, IsValueOf};
 ghost use Rattle.pg_cells.specs.Steps.{CellsStep, MayEnd, synchronizes, join_own, join_ghost, joined, after_body, ghosts_after};
 ghost use Rattle.pg_cells.specs.Steps.Event.{put, handled, closed, round_ended};
-ghost use Rattle.pg_cells.specs.Shown.{state_of};
+ghost use Rattle.pg_cells.specs.Shown.{SamePart, resolver_of, state_of};
 ghost use Rattle.pg_cells.specs.Freshness.{BackwardRefreshes, ForwardJoins};
 ghost use Rattle.pg_cells.specs.declared.bodies.CellBody.TheVariants.{Refresh};
 ghost use Rattle.pg_cells.specs.declared.phases.Phase.TheVariants.{Filling};
@@ -29,7 +29,7 @@ impl<R: Resolver> Cells<R> {
         flags: Flags,
     ) -> Result<Cells<R>, OutOfMemory>
         ensures new { IfOk result (λ cells. state_of cells ≡ new_cells (R.start resolver) part.now flags) }
-        ensures resolver { IfOk result (λ cells. cells.resolver ≡ resolver) }
+        ensures resolver { IfOk result (λ cells. resolver_of cells ≡ resolver) }
     {
         match cells_of(alloc, part, resolver, flags) {
             Ok(cells) => Ok(cells),
@@ -39,14 +39,14 @@ impl<R: Resolver> Cells<R> {
 
     /// Whether `v` has a cell here: as an own vertex or as a ghost.
     pub fn knows(&self, v: Vertex) -> bool
-        ensures { (result ≡ true) ↔ IsKnown self.now.part.value v.0 }
+        ensures { (result ≡ true) ↔ IsKnown (state_of self.now).part v.0 }
     {
         self.places.place(v).is_some() || self.slots.slot(v).is_some()
     }
 
     /// Whether values may be put, or how far a synchronize has come.
     pub fn phase(&self) -> Phase
-        ensures { result ≡ self.now.phase }
+        ensures { result ≡ (state_of self.now).phase }
     {
         self.phase
     }
@@ -55,12 +55,12 @@ impl<R: Resolver> Cells<R> {
     /// With forward, what is put to a ghost is owed to its owner, several puts joined into one; with flush, the
     /// ghost is noted, and its value goes to the owner at the next synchronize.
     pub fn put(&mut self, v: Vertex, x: u64)
-        requires known { IsKnown self.old.part.value v.0 }
-        requires filling { self.old.phase ≡ Filling }
-        ensures step { CellsStep (R.join self.old.resolver) (R.start self.old.resolver) (state_of self.old) (put v.0 x) (state_of self.new) }
-        ensures resolver { self.new.resolver ≡ self.old.resolver }
-        ensures part { self.new.part ≡ self.old.part }
-        ensures phase { self.new.phase ≡ self.old.phase }
+        requires known { IsKnown (state_of self.old).part v.0 }
+        requires filling { (state_of self.old).phase ≡ Filling }
+        ensures step { CellsStep (R.join (resolver_of self.old)) (R.start (resolver_of self.old)) (state_of self.old) (put v.0 x) (state_of self.new) }
+        ensures resolver { resolver_of self.new ≡ resolver_of self.old }
+        ensures part { SamePart self.old self.new }
+        ensures phase { (state_of self.new).phase ≡ (state_of self.old).phase }
     {
         match self.places.place(v) {
             Some(place) => self.join_own(place, x),
@@ -75,7 +75,7 @@ impl<R: Resolver> Cells<R> {
     /// The value of the vertex `v`. `None` comes exactly where `v` is a ghost that was emptied and was neither put
     /// to nor refreshed since.
     pub fn get(&self, v: Vertex) -> Option<u64>
-        requires { IsKnown self.now.part.value v.0 }
+        requires { IsKnown (state_of self.now).part v.0 }
         ensures { IsValueOf (state_of self.now) v.0 result }
     {
         match self.places.place(v) {
@@ -86,10 +86,10 @@ impl<R: Resolver> Cells<R> {
 
     /// Begins a synchronize: from here on nothing is put until it has ended. No cell changes.
     pub fn close(&mut self)
-        requires { self.old.phase ≡ Filling }
-        ensures step { CellsStep (R.join self.old.resolver) (R.start self.old.resolver) (state_of self.old) closed (state_of self.new) }
-        ensures resolver { self.new.resolver ≡ self.old.resolver }
-        ensures part { self.new.part ≡ self.old.part }
+        requires { (state_of self.old).phase ≡ Filling }
+        ensures step { CellsStep (R.join (resolver_of self.old)) (R.start (resolver_of self.old)) (state_of self.old) closed (state_of self.new) }
+        ensures resolver { resolver_of self.new ≡ resolver_of self.old }
+        ensures part { SamePart self.old self.new }
     {
         self.phase = Phase::Closing;
     }
@@ -97,10 +97,10 @@ impl<R: Resolver> Cells<R> {
     /// Takes a body from another rank: a `Put` joins its value to the own cell at its place, a `Refresh` replaces
     /// the ghost in its slot. A place or slot out of range changes nothing, and the phase stays.
     pub fn handle(&mut self, from: RankNo, body: CellBody)
-        ensures step { CellsStep (R.join self.old.resolver) (R.start self.old.resolver) (state_of self.old) (handled from.0 body) (state_of self.new) }
-        ensures resolver { self.new.resolver ≡ self.old.resolver }
-        ensures part { self.new.part ≡ self.old.part }
-        ensures phase { self.new.phase ≡ self.old.phase }
+        ensures step { CellsStep (R.join (resolver_of self.old)) (R.start (resolver_of self.old)) (state_of self.old) (handled from.0 body) (state_of self.new) }
+        ensures resolver { resolver_of self.new ≡ resolver_of self.old }
+        ensures part { SamePart self.old self.new }
+        ensures phase { (state_of self.new).phase ≡ (state_of self.old).phase }
     {
         match body {
             CellBody::Put { place, value } => self.join_own(place, value),
@@ -118,12 +118,12 @@ impl<R: Resolver> Cells<R> {
     /// value that any rank put to the vertex (`joins`).
     pub fn end_round(&mut self) -> bool
         requires { MayEnd (state_of self.old) }
-        ensures step { CellsStep (R.join self.old.resolver) (R.start self.old.resolver) (state_of self.old) round_ended (state_of self.new) }
+        ensures step { CellsStep (R.join (resolver_of self.old)) (R.start (resolver_of self.old)) (state_of self.old) round_ended (state_of self.new) }
         ensures synchronized { result ≡ synchronizes (state_of self.old) }
-        ensures refreshes { BackwardRefreshes (R.join self.old.resolver) (R.start self.old.resolver) }
-        ensures joins { ForwardJoins (R.join self.old.resolver) (R.start self.old.resolver) }
-        ensures resolver { self.new.resolver ≡ self.old.resolver }
-        ensures part { self.new.part ≡ self.old.part }
+        ensures refreshes { BackwardRefreshes (R.join (resolver_of self.old)) (R.start (resolver_of self.old)) }
+        ensures joins { ForwardJoins (R.join (resolver_of self.old)) (R.start (resolver_of self.old)) }
+        ensures resolver { resolver_of self.new ≡ resolver_of self.old }
+        ensures part { SamePart self.old self.new }
     {
         match self.phase {
             Phase::Filling => false,

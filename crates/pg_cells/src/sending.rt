@@ -5,7 +5,7 @@ ghost use Rattle.pg_adj.specs.Portions.{IsForeign};
 ghost use Rattle.pg_cells.specs.States.{NothingLeft};
 ghost use Rattle.pg_cells.specs.Steps.{CellsStep, Sends};
 ghost use Rattle.pg_cells.specs.Steps.Event.{sent};
-ghost use Rattle.pg_cells.specs.Shown.{state_of};
+ghost use Rattle.pg_cells.specs.Shown.{SamePart, resolver_of, state_of};
 ghost use Rattle.pg_cells.specs.NextSends.{IsNext, after_send};
 ghost use Rattle.pg_cells.specs.declared.bodies.CellBody.{CellBody};
 ghost use Rattle.pg_cells.specs.declared.outgoing.NextSend.TheVariants.{PutOf, RefreshOf};
@@ -24,20 +24,20 @@ impl<R: Resolver> Cells<R> {
     /// another rank. `Idle`: none is left. `Blocked`: the lane to that rank was full. With the last two the map stays
     /// as it was.
     pub fn work<O: Outbox<CellBody>>(&mut self, out: &mut O) -> Worked
-        requires own { O.own out.old ≡ self.old.part.value.rank }
-        requires size { O.size out.old ≡ self.old.part.value.ranks }
+        requires own { O.own out.old ≡ (state_of self.old).part.rank }
+        requires size { O.size out.old ≡ (state_of self.old).part.ranks }
         requires unmarked { AreUnmarked (O.marks_sent out.old) }
         ensures more { OnMore result ((to : ℕ) × (body : CellBody) × IsOther (O.own out.old) (O.size out.old) to × (O.sent out.new ≡ append_at (O.sent out.old) to (Item body))
-            × CellsStep (R.join self.old.resolver) (R.start self.old.resolver) (state_of self.old) (sent to body) (state_of self.new)) }
+            × CellsStep (R.join (resolver_of self.old)) (R.start (resolver_of self.old)) (state_of self.old) (sent to body) (state_of self.new)) }
         ensures idle { OnIdle result (NothingLeft (state_of self.new)) }
         ensures idle_stays { OnIdle result (self.new ≡ self.old) }
         ensures idle_sends { OnIdle result (out.new ≡ out.old) }
         ensures blocked { OnBlocked result (λ to. IsOther (O.own out.old) (O.size out.old) to × O.saw_full out.old to out.new) }
         ensures blocked_stays { OnBlocked result (λ _. self.new ≡ self.old) }
         ensures blocked_sends { OnBlocked result (λ _. O.sent out.new ≡ O.sent out.old) }
-        ensures resolver { self.new.resolver ≡ self.old.resolver }
-        ensures part { self.new.part ≡ self.old.part }
-        ensures phase { self.new.phase ≡ self.old.phase }
+        ensures resolver { resolver_of self.new ≡ resolver_of self.old }
+        ensures part { SamePart self.old self.new }
+        ensures phase { (state_of self.new).phase ≡ (state_of self.old).phase }
         ensures out_own { O.own out.new ≡ O.own out.old }
         ensures out_size { O.size out.new ≡ O.size out.old }
         ensures out_marks { O.marks_sent out.new ≡ O.marks_sent out.old }
