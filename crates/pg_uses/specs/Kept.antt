@@ -9,6 +9,10 @@ use Rattle.pg_uses.specs.declared.degrees.Degrees.{Degrees}
 use Rattle.pg_uses.specs.Degrees.{IsOwnDegree}
 use Rattle.pg_uses.specs.Greatest.{IsGreatest}
 
+-- the greatest degree that it knows
+abbrev pub greatest_in : Degrees → ℕ
+greatest_in p = p.greatest
+
 -- Nothing was called of it yet.
 pub record IsNewDegrees (p : Degrees) : Type 0 where
   pub greatest : p.greatest ≡ p.own

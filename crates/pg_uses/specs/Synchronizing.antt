@@ -12,7 +12,7 @@ use Rattle.pg_cells.specs.declared.phases.Phase.TheVariants.{Closing}
 use Rattle.pg_cells.specs.Freshness.{BackwardRefreshes, ForwardJoins}
 use Rattle.pg_cells.specs.Runs.{Run, rounds, ends_a_round, events_of, handled_from, sent_to, puts_to}
 use Rattle.pg_cells.specs.Shown.{state_of}
-use Rattle.pg_cells.specs.States.{new_cells}
+use Rattle.pg_cells.specs.States.{CellState, new_cells}
 use Rattle.pg_cells.specs.Steps.{Event, Sends, after_body}
 use Rattle.pg_uses.specs.declared.neighbours.NeighbourDegrees.{NeighbourDegrees}
 use Rattle.pg_uses.specs.DegreeMaps.{both_ways, no_degree, opening, round_in, rounds_before}
@@ -20,6 +20,10 @@ use Rattle.pg_uses.specs.DegreeMaps.{both_ways, no_degree, opening, round_in, ro
 -- The part whose vertices' degrees it knows.
 abbrev pub part_in : NeighbourDegrees → Portion
 part_in p = p.part
+
+-- The cells of its property map.
+abbrev pub cells_in : NeighbourDegrees → CellState
+cells_in p = state_of p.cells
 
 -- Nothing was called of it yet.
 pub record IsNewMap (p : NeighbourDegrees) : Type 0 where

@@ -30,7 +30,7 @@ pub struct Degrees {
 }
 
 impl Degrees {
-    ghost use Rattle.pg_uses.specs.Kept.{HasToldAll, IsProgramOf};
+    ghost use Rattle.pg_uses.specs.Kept.{HasToldAll, IsProgramOf, greatest_in};
 
     /// The program of the rank that holds this part, before it has sent anything. Takes time linear in the part's
     /// vertices, and allocates nothing.
@@ -53,7 +53,7 @@ impl Degrees {
     /// The greatest degree that the rank knows: of a new program that of its own vertices, 0 where it has none, and
     /// after a whole run that of the graph ([`crate::run_degrees`]).
     pub fn greatest(&self) -> u64
-        ensures { result ≡ self.now.greatest }
+        ensures { result ≡ greatest_in self.now }
     {
         self.greatest
     }

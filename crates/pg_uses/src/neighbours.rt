@@ -33,7 +33,7 @@ pub struct NeighbourDegrees {
 }
 
 impl NeighbourDegrees {
-    ghost use Rattle.pg_uses.specs.Synchronizing.{IsMapOf, part_in};
+    ghost use Rattle.pg_uses.specs.Synchronizing.{IsMapOf, cells_in, part_in};
 
     /// The program of the rank that holds this part. The degrees of its own vertices are put, and the map is closed.
     /// This allocates the map; `OutOfMemory` comes only where an allocation is refused.
@@ -59,7 +59,7 @@ impl NeighbourDegrees {
     pub fn greatest(&self, place: u32) -> u64
         requires place { place < length (part_in self.now).vertices }
         requires neighbours { HasNeighbours (part_in self.now) place }
-        ensures { IsGreatest (IsValueBeside (part_in self.now) (state_of self.now.cells) place) result }
+        ensures { IsGreatest (IsValueBeside (part_in self.now) (cells_in self.now) place) result }
     {
         // For the facts that it ensures.
         let _n = self.part.n();

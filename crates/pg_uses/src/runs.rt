@@ -3,7 +3,7 @@ ghost use Rattle.std.specs.Prelude.{◌≡◌, ◌≤◌, IfOk, Some, length, sl
 ghost use Rattle.pg_group.specs.Entries.{Each};
 ghost use Rattle.pg_adj.specs.Portions.{Portion};
 ghost use Rattle.pg_uses.specs.Degrees.{IsGreatestDegree};
-ghost use Rattle.pg_uses.specs.Kept.{IsProgramOf};
+ghost use Rattle.pg_uses.specs.Kept.{IsProgramOf, greatest_in};
 ghost use Rattle.pg_uses.specs.Runs.{AreInOrder, IsRun, IsRunOver};
 
 use crate::Degrees;
@@ -73,7 +73,7 @@ pub fn run_degrees<W: Threads + Wait + Sync, D: Distribution>(
     requires capacity_at_most { capacity ≤ 1024 }
     ensures count { IfOk result (λ f. length f.programs.items ≡ (D.sharing dist.now).ranks) }
     ensures run { IfOk result (λ f. IsRun (D.sharing dist.now) graph.now f.programs.items f.lanes.items) }
-    ensures each { IfOk result (λ f. Each (λ rank p. IsGreatestDegree graph.now p.greatest) f.programs.items) }
+    ensures each { IfOk result (λ f. Each (λ rank p. IsGreatestDegree graph.now (greatest_in p)) f.programs.items) }
 {
     let _n = graph.n();
     let _ranks = dist.ranks().count();
