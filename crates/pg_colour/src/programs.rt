@@ -81,19 +81,19 @@ impl Program for Colouring {
 
     /// Ends the work of this round. In a pass `a` is how many vertices were coloured, in a round of refreshes 1.
     fn vote(&mut self) -> Vote
-        requires idle { self.old.idle ≡ true }
-        requires uncast { self.old.cast ≡ None }
+        requires idle { ⟦<Colouring as Program>⟧.idle self.old ≡ true }
+        requires uncast { ⟦<Colouring as Program>⟧.cast self.old ≡ None }
         ensures kept { (start : Colouring) (handled sent : List (List (Body CellBody))) → KeepsColoured start handled sent self.old
             → KeepsColoured start handled (append_others (part_in self.old).rank (Mark result) sent) self.new }
         ensures says { IsVoteOf (part_in self.old) (state_of self.old) result }
         ensures voted { HasVoted (part_in self.old) result (state_of self.old) (state_of self.new) }
-        ensures cast { self.new.cast ≡ Some result }
+        ensures cast { ⟦<Colouring as Program>⟧.cast self.new ≡ Some result }
         ensures form { IsNarrow result }
         ensures same_own { (part_in self.new).rank ≡ (part_in self.old).rank }
         ensures same_size { (part_in self.new).ranks ≡ (part_in self.old).ranks }
-        ensures same_round { count_of self.new.rounds ≡ count_of self.old.rounds }
-        ensures same_idle { self.new.idle ≡ self.old.idle }
-        ensures same_ended { self.new.ended ≡ self.old.ended }
+        ensures same_round { ⟦<Colouring as Program>⟧.round self.new ≡ ⟦<Colouring as Program>⟧.round self.old }
+        ensures same_idle { ⟦<Colouring as Program>⟧.idle self.new ≡ ⟦<Colouring as Program>⟧.idle self.old }
+        ensures same_ended { ⟦<Colouring as Program>⟧.ended self.new ≡ ⟦<Colouring as Program>⟧.ended self.old }
     {
         let vote = Vote {
             a: self.amount(),
@@ -108,19 +108,19 @@ impl Program for Colouring {
     /// Ends the round with the votes of all ranks, also its own. `Stop` comes exactly with a pass in which no rank had
     /// a vertex to colour.
     fn round_end(&mut self, votes: &[Vote]) -> Next
-        requires running { self.old.ended ≡ false }
+        requires running { ⟦<Colouring as Program>⟧.ended self.old ≡ false }
         requires each { length votes.now ≡ (part_in self.old).ranks }
-        requires mine { slice_get votes.now (part_in self.old).rank ≡ self.old.cast }
+        requires mine { slice_get votes.now (part_in self.old).rank ≡ ⟦<Colouring as Program>⟧.cast self.old }
         ensures kept { (start : Colouring) (handled sent : List (List (Body CellBody))) → KeepsColoured start handled sent self.old
             → KeepsColoured start (append_marks (part_in self.old).rank votes.now handled) sent self.new }
         ensures stops { OnStop result (HasStopped (part_in self.old) votes.now (state_of self.old) (state_of self.new)) }
         ensures goes_on { OnAgain result (HasGoneOn (part_in self.old) votes.now (state_of self.old) (state_of self.new)) }
-        ensures stop { self.new.ended ≡ is_stop result }
-        ensures again { OnAgain result (count_of self.new.rounds ≡ count_of self.old.rounds + 1) }
-        ensures uncast { OnAgain result (self.new.cast ≡ None) }
-        ensures not_idle { OnAgain result (self.new.idle ≡ false) }
-        ensures last_round { OnStop result (count_of self.new.rounds ≡ count_of self.old.rounds) }
-        ensures last_vote { OnStop result (self.new.cast ≡ self.old.cast) }
+        ensures stop { ⟦<Colouring as Program>⟧.ended self.new ≡ is_stop result }
+        ensures again { OnAgain result (⟦<Colouring as Program>⟧.round self.new ≡ ⟦<Colouring as Program>⟧.round self.old + 1) }
+        ensures uncast { OnAgain result (⟦<Colouring as Program>⟧.cast self.new ≡ None) }
+        ensures not_idle { OnAgain result (⟦<Colouring as Program>⟧.idle self.new ≡ false) }
+        ensures last_round { OnStop result (⟦<Colouring as Program>⟧.round self.new ≡ ⟦<Colouring as Program>⟧.round self.old) }
+        ensures last_vote { OnStop result (⟦<Colouring as Program>⟧.cast self.new ≡ ⟦<Colouring as Program>⟧.cast self.old) }
         ensures same_own { (part_in self.new).rank ≡ (part_in self.old).rank }
         ensures same_size { (part_in self.new).ranks ≡ (part_in self.old).ranks }
     {
