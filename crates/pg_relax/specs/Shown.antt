@@ -11,6 +11,7 @@ use Rattle.pg_relax.specs.Rounds.{count_of}
 use Rattle.pg_relax.specs.States.{label_of}
 use Rattle.pg_relax.specs.Kept.{HasRelaxed, IsOpening}
 use Rattle.pg_relax.specs.Offered.{AreOffered}
+use Rattle.pg_relax.specs.declared.offered.Offered.{Offered}
 use Rattle.pg_relax.specs.declared.offered.Told.{Told}
 use Rattle.pg_relax.specs.Tables.{shown}
 use Rattle.pg_relax.specs.Whole.{State}
@@ -27,6 +28,10 @@ module _ {L A : Type 0} {l : LabelGhosts L} {a : AgendaGhosts A} where
   -- its agenda
   abbrev pub agenda_in : Relax L A l a → A
   agenda_in r = r.frontier.agenda
+
+  -- what it has offered to vertices of other ranks
+  abbrev pub offered_in : Relax L A l a → Offered
+  offered_in r = r.offered
 
   abbrev pub state_of : Relax L A l a → State
   state_of r = record {

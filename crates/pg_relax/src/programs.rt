@@ -5,7 +5,7 @@ ghost use Rattle.pg_group.specs.declared.messages.Body.TheVariants.{Mark};
 ghost use Rattle.pg_group.specs.Supersteps.{append_marks, append_others, is_stop, OnAgain, OnStop};
 ghost use Rattle.pg_best.specs.declared.offers.Offer.{Offer};
 ghost use Rattle.pg_relax.specs.Kept.{AreQuiet, IsFitting, IsNarrow};
-ghost use Rattle.pg_relax.specs.Shown.{KeepsRelaxed, agenda_in, state_of};
+ghost use Rattle.pg_relax.specs.Shown.{KeepsRelaxed, agenda_in, offered_in, state_of};
 
 use crate::Relax;
 use crate::working::{go_on, take_up};
@@ -119,7 +119,7 @@ impl<L: Label + Send, A: Agenda + Send> Program for Relax<L, A> {
             → KeepsRelaxed start handled (append_others (⟦<Relax<L, A> as Program>⟧.own self.old) (Mark result) sent) self.new }
         ensures cast { ⟦<Relax<L, A> as Program>⟧.cast self.new ≡ Some result }
         ensures form { IsNarrow result }
-        ensures same_offered { self.new.offered ≡ self.old.offered }
+        ensures same_offered { offered_in self.new ≡ offered_in self.old }
         ensures of_agenda { A.IsVote (agenda_in self.old) (state_of self.old).sends result }
         ensures same_own { ⟦<Relax<L, A> as Program>⟧.own self.new ≡ ⟦<Relax<L, A> as Program>⟧.own self.old }
         ensures same_size { ⟦<Relax<L, A> as Program>⟧.size self.new ≡ ⟦<Relax<L, A> as Program>⟧.size self.old }
@@ -140,7 +140,7 @@ impl<L: Label + Send, A: Agenda + Send> Program for Relax<L, A> {
             → KeepsRelaxed start (append_marks (⟦<Relax<L, A> as Program>⟧.own self.old) votes.now handled) sent self.new }
         ensures stops { OnStop result (AreQuiet votes.now) }
         ensures goes_on { OnAgain result (AreQuiet votes.now → ⊥) }
-        ensures same_offered { self.new.offered ≡ self.old.offered }
+        ensures same_offered { offered_in self.new ≡ offered_in self.old }
         ensures agreed { OnAgain result (A.HasBegun (agenda_in self.old) votes.now (agenda_in self.new)) }
         ensures stop { ⟦<Relax<L, A> as Program>⟧.ended self.new ≡ is_stop result }
         ensures again { OnAgain result (⟦<Relax<L, A> as Program>⟧.round self.new ≡ ⟦<Relax<L, A> as Program>⟧.round self.old + 1) }
