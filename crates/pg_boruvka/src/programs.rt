@@ -150,18 +150,18 @@ impl Program for Dense {
 
     /// Ends the round. `Stop` comes exactly with the second round of a phase in which no label has a winner.
     fn round_end(&mut self, _votes: &[Vote]) -> Next
-        requires running { self.old.ended ≡ false }
+        requires running { ⟦<Dense as Program>⟧.ended self.old ≡ false }
         requires each { length _votes.now ≡ (part_in self.old).ranks }
-        requires mine { slice_get _votes.now (part_in self.old).rank ≡ self.old.cast }
+        requires mine { slice_get _votes.now (part_in self.old).rank ≡ ⟦<Dense as Program>⟧.cast self.old }
         ensures kept { (start : Dense) (handled sent : List (List (Body Message))) → KeepsDense start handled sent self.old
             → KeepsDense start (append_marks (part_in self.old).rank _votes.now handled) sent self.new }
         ensures stops { (is_stop result ≡ true) ↔ IsOver (view_of self.old) }
-        ensures stop { self.new.ended ≡ is_stop result }
+        ensures stop { ⟦<Dense as Program>⟧.ended self.new ≡ is_stop result }
         ensures again { OnAgain result (round_of (view_of self.new) ≡ round_of (view_of self.old) + 1) }
-        ensures uncast { OnAgain result (self.new.cast ≡ None) }
-        ensures not_idle { OnAgain result (self.new.idle ≡ false) }
+        ensures uncast { OnAgain result (⟦<Dense as Program>⟧.cast self.new ≡ None) }
+        ensures not_idle { OnAgain result (⟦<Dense as Program>⟧.idle self.new ≡ false) }
         ensures last_round { OnStop result (round_of (view_of self.new) ≡ round_of (view_of self.old)) }
-        ensures last_vote { OnStop result (self.new.cast ≡ self.old.cast) }
+        ensures last_vote { OnStop result (⟦<Dense as Program>⟧.cast self.new ≡ ⟦<Dense as Program>⟧.cast self.old) }
         ensures same_own { (part_in self.new).rank ≡ (part_in self.old).rank }
         ensures same_size { (part_in self.new).ranks ≡ (part_in self.old).ranks }
     {
