@@ -31,3 +31,4 @@ pub mod MirrorGhosts
 pub mod Mirror
 pub mod SlotTables
 pub mod FewGhosts
+pub mod Incident

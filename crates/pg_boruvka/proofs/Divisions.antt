@@ -11,10 +11,10 @@ use Rattle.pg_adj.specs.declared.arcs.Arc.{Arc}
 use Rattle.pg_adj.specs.Portions.{Portion}
 use Rattle.pg_adj.specs.Incidence.{incidences}
 use Rattle.pg_adj.specs.Division.{IsPartOf, Divided, other_end, arc_at, no_edge}
+use Rattle.pg_adj.proofs.Incident.{index_is_end, end_is_index}
 use Rattle.pg_boruvka.specs.Parts.{LocalArc, IsArc, IsHeld, IsDivided, arc_of, edge_at}
 use Rattle.pg_boruvka.specs.Portions.{local_of, arcs_below, part_of, DivisionsServe}
 use Rattle.pg_boruvka.proofs.Items.{member_of_map, mapped_member}
-use Rattle.pg_boruvka.proofs.Incident.{index_is_end, end_is_index}
 
 abbrev row : Portion → ℕ → List Arc
 row p i = row_of p.bounds p.arcs i

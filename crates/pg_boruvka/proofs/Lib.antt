@@ -14,7 +14,6 @@ pub mod Staying
 pub mod Hooking
 pub mod Growing
 pub mod Ending
-pub mod Incident
 pub mod Divisions
 pub mod Agreeing
 pub mod Keeping

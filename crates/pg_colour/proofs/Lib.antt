@@ -5,7 +5,6 @@ pub mod OpeningLemmas
 pub mod NewCells
 pub mod WorkLemmas
 pub mod SendLemmas
-pub mod Incident
 pub mod Neighbours
 pub mod PassesOver
 pub mod Kept

@@ -21,10 +21,10 @@ use Rattle.pg_adj.specs.Incidence.{incidences}
 use Rattle.pg_adj.specs.Division.{Divided, IsPartOf, arc_at, other_end, no_edge, leads_abroad, vertices_to, ghost_of}
 use Rattle.pg_adj.proofs.MirrorLists.{Contains-at, index_of, Contains-map, Contains-from_map}
 use Rattle.pg_adj.proofs.MirrorGhosts.{IsGhostOf, ghost_from, abroad}
+use Rattle.pg_adj.proofs.Incident.{index_is_end, end_is_index, at}
 use Rattle.pg_cells.specs.States.{IsGhost}
 use Rattle.pg_proper.proofs.FirstFit.{neighbour_within}
 use Rattle.pg_colour.specs.Passes.{row}
-use Rattle.pg_colour.proofs.Incident.{index_is_end, end_is_index, at}
 
 other_of_first : (e : Edge) (v : ℕ) → e.u ≡ v → other_end e v ≡ e.v
 other_of_first e v same = cond-true (e.u == v) e.v e.u (eq-eqb e.u v same)
