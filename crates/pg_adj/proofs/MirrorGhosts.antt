@@ -1,7 +1,6 @@
 -- The ghosts of a rank are vertices of other ranks, each once.
-use Rattle.std.proofs.Common.{◌≡◌, ◌≢◌, ◌==◌, ◌&&◌, not, true, ℕ, ◌+◌, ◌-◌, ◌<◌, ◌≤◌, List, length, get_or, filter, All, AllPairs, Contains, zero, suc, sym, ap, subst, refl, ◌∙◌, inl, inr, arith}
-use Rattle.std.proofs.lemmas.Bool.{cases_lt, eqb-true, and_parts, not-true, eqb-false}
-use Rattle.std.proofs.lemmas.List.Edits.{get_or-between, length-between}
+use Rattle.std.proofs.Common.{◌≡◌, ◌≢◌, ◌==◌, ◌&&◌, not, true, ℕ, ◌+◌, ◌-◌, ◌<◌, List, length, get_or, filter, All, AllPairs, Contains, zero, suc, ap, subst, refl, ◌∙◌, arith}
+use Rattle.std.proofs.lemmas.Bool.{eqb-true, and_parts, not-true, eqb-false}
 use Rattle.std.proofs.lemmas.List.Elements.{All-nil, All-push, All-weaker, All-map, All-contains}
 use Rattle.std.proofs.lemmas.List.Folds.{Any-from_list_any}
 use Rattle.std.proofs.lemmas.List.Kept.{AllPairs-filter}
@@ -16,6 +15,7 @@ use Rattle.pg_adj.specs.Incidence.{incidences}
 use Rattle.pg_dist.specs.Sharing.{Sharing}
 use Rattle.pg_adj.specs.Division.{AreRows, arc_at, arcs_at, leads_abroad, vertices_to, ghost_of, ghosts_of}
 use Rattle.pg_adj.proofs.MirrorLists.{Contains-from_map, AllPairs-nil, AllPairs-map}
+use Rattle.pg_adj.proofs.Sharings.{in_first_rows}
 
 vertices_to-within : (n : ℕ) → All (IsVertex n) (vertices_to n)
 vertices_to-within zero = All-nil (IsVertex zero)
@@ -52,28 +52,6 @@ ghost_from owner local n r arcs g among =
       place = refl;
       leads = kept.1;
     })
-
--- what holds in every row holds of the items below a bound
-in_first_rows : {X : Type 0} (P : X → Type 0) (rows : ℕ → List X) (count : ℕ) (bounds : List ℕ) (items : List X) → AreRows rows count bounds items → ((i : ℕ) → i < count → All P (rows i))
-    → (m k : ℕ) (d : X) → m ≤ count → k < get_or bounds m 0 → P (get_or items k d)
-in_first_rows P rows count bounds items h each zero k d l below = absurd (omega (arith, h.first))
-in_first_rows {X} P rows count bounds items h each (suc m) k d l below = elim (cases_lt k (get_or bounds m 0)) [
-  | inl less ↦ in_first_rows P rows count bounds items h each m k d (omega arith) less
-  | inr least ↦
-      let next : suc m ≡ m + 1 = omega arith in
-      let below' : k < get_or bounds (m + 1) 0 = subst (λ (i : ℕ). k < get_or bounds i 0) next below in
-      let within = h.bounded.within (m + 1) (omega arith) in
-      let size = length-between items (get_or bounds m 0) (get_or bounds (m + 1) 0) (omega arith) in
-      let row = h.row m (omega arith) in
-      let inside : k - get_or bounds m 0 < length (rows m) = omega (arith, ap length row) in
-      let holds : P (get_or (rows m) (k - get_or bounds m 0) d) = each m (omega arith) (k - get_or bounds m 0) d inside in
-      let place : get_or bounds m 0 + (k - get_or bounds m 0) ≡ k = omega arith in
-      let read : get_or (rows m) (k - get_or bounds m 0) d ≡ get_or items k d =
-      ap (λ (xs : List X). get_or xs (k - get_or bounds m 0) d) (sym row)
-      ∙ (get_or-between items (get_or bounds m 0) (get_or bounds (m + 1) 0) (k - get_or bounds m 0) d (omega arith)
-      ∙ ap (λ (i : ℕ). get_or items i d) place) in
-      subst P read holds
-]
 
 -- an arc knows the owner of the vertex that it leads to
 homes_known : (s : Sharing) (edges : List Edge) (vertices bounds : List ℕ) (arcs : List Arc)

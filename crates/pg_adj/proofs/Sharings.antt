@@ -36,7 +36,7 @@ own_within s laws r vertices rank count each = λ i d l.
     record { first = omega (arith, laws.global_first r i rank l'); last = omega (arith, laws.global_last r i rank l') }
 
 -- what holds in every row holds of every item
-in_first_rows : {X : Type 0} (P : X → Type 0) (rows : ℕ → List X) (count : ℕ) (bounds : List ℕ) (items : List X) → AreRows rows count bounds items → ((i : ℕ) → i < count → All P (rows i))
+pub in_first_rows : {X : Type 0} (P : X → Type 0) (rows : ℕ → List X) (count : ℕ) (bounds : List ℕ) (items : List X) → AreRows rows count bounds items → ((i : ℕ) → i < count → All P (rows i))
     → (m k : ℕ) (d : X) → m ≤ count → k < get_or bounds m 0 → P (get_or items k d)
 in_first_rows P rows count bounds items h each zero k d l below = absurd (omega (arith, h.first))
 in_first_rows {X} P rows count bounds items h each (suc m) k d l below = elim (cases_lt k (get_or bounds m 0)) [
