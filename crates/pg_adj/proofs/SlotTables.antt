@@ -24,13 +24,6 @@ blank_at n v = elim (cases_lt v n) [
   | inr past ↦ get_or_past (replicate n nothing) v nothing (omega (arith, length-replicate n nothing))
 ]
 
-pub none_entered : (ghosts : List Ghost) (n : ℕ) (table : List (Option ℕ)) → table ≡ replicate (n + 1) None → AreEntered ghosts n 0 table
-none_entered ghosts n table blank = record {
-  size = ap length blank ∙ length-replicate (n + 1) None;
-  sound = λ v slot is. absurd (none-some slot (sym (ap (λ (t : List (Option ℕ)). get_or t v None) blank ∙ blank_at (n + 1) v) ∙ is));
-  entered = λ slot g less at. absurd (omega arith);
-}
-
 pub one_entered : (ghosts : List Ghost) (n k : ℕ) (table : List (Option ℕ)) (g : Ghost) → AllPairs (λ a b. a.vertex.0 < b.vertex.0) ghosts → slice_get ghosts k ≡ Some g → g.vertex.0 ≤ n
     → AreEntered ghosts n k table → AreEntered ghosts n (k + 1) (set table g.vertex.0 (Some k))
 one_entered ghosts n k table g ascend at within h = record {

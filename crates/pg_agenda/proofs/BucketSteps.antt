@@ -1,11 +1,9 @@
 -- What the buckets of all places tell.
-use Rattle.std.proofs.Common.{◌≡◌, ◌≢◌, ◌<◌, ◌≤◌, ℕ, Bool, true, false, Option, None, Some, List, [], length, refl, inl, inr, arith}
-use Rattle.std.specs.Prelude.{nat_lt, not, unwrap_or, IfSome, IsNone, ◌↔◌}
+use Rattle.std.proofs.Common.{◌≡◌, ◌≢◌, ◌<◌, ◌≤◌, ℕ, Bool, true, false, List, length, refl, inl, inr, arith}
+use Rattle.std.specs.Prelude.{nat_lt, not}
 use Rattle.std.proofs.lemmas.Bool.{cases_Bool, le-ltb, cases_lt, both_ways}
 use Rattle.std.proofs.lemmas.List.{get_or_past}
-use Rattle.std.proofs.lemmas.List.Elements.{All-get_or, at_from_Contains}
 use Rattle.std.proofs.lemmas.List.Folds.{list_any_at}
-use Rattle.pg_simd.specs.Kernels.{IsLeast}
 use Rattle.pg_agenda.specs.Shares.{NONE}
 use Rattle.pg_agenda.specs.LevelLists.{is_set, is_any}
 use Rattle.pg_agenda.specs.BucketPhases.{bucket_of, IsLowest}
@@ -25,22 +23,6 @@ bucket_within buckets place bucket lt e = elim (cases_lt place (length buckets))
 pub none_in : (buckets : List ℕ) (bucket : ℕ) → bucket < NONE → ((k : ℕ) → k < length buckets → bucket_of buckets k ≢ bucket)
     → (place : ℕ) → bucket_of buckets place ≢ bucket
 none_in buckets bucket lt others place e = others place (bucket_within buckets place bucket lt e) e
-
-lowest_of : (buckets : List ℕ) (least : ℕ) → least ≤ NONE → IsLeast buckets least → IsLowest buckets least
-lowest_of buckets least fits is = record {
-  lowest = λ place. elim (cases_lt place (length buckets)) [
-    | inl within ↦ All-get_or (λ other. least ≤ other) buckets place NONE within is.lowest
-    | inr past ↦ omega (arith, past_end buckets place past, fits)
-  ];
-  stands = let (k, within, there) = at_from_Contains buckets least is.stands in (k, there NONE);
-}
-
-pub lowest_from : (buckets : List ℕ) (answer : Option ℕ) → IsNone answer ↔ (buckets ≡ []) → IfSome answer (λ least. IsLeast buckets least)
-    → unwrap_or answer NONE ≤ NONE → IsLowest buckets (unwrap_or answer NONE)
-lowest_from buckets None none some fits =
-    let empty : buckets ≡ [] = none.0 refl in
-    rw empty (record { lowest = λ place. omega arith; stands = (0, refl) })
-lowest_from buckets (Some least) none some fits = lowest_of buckets least fits some
 
 -- where no flag is set, no place's is
 pub none_set : (flags : List Bool) → is_any flags ≡ false → (place : ℕ) → is_set flags place ≡ false

@@ -1,20 +1,16 @@
 -- A set of places stays what it is as places enter and leave.
-use Rattle.std.proofs.Common.{◌≡◌, ◌<◌, ℕ, Bool, true, false, eqb, List, [], ◌∷◌, ◌++◌, length, set, refl, sym, ap, ◌∙◌, arith}
+use Rattle.std.proofs.Common.{◌≡◌, ◌<◌, ℕ, Bool, true, false, eqb, List, [], ◌∷◌, length, refl, sym, ap, ◌∙◌, arith}
 use Rattle.std.specs.Prelude.{not}
 use Rattle.std.proofs.lemmas.Bool.{ne_eqb}
 use Rattle.std.proofs.lemmas.List.Sums.{sum_by-cons}
 use Rattle.pg_agenda.specs.LevelLists.{AreLevels, one_if, set_flags, is_set, is_any}
-use Rattle.pg_agenda.proofs.LevelSteps.{levels_put, levels_room}
+use Rattle.pg_agenda.proofs.LevelSteps.{levels_room}
 
 turned : (flags : List Bool) (this next : List ℕ) → AreLevels flags this next → AreLevels flags next this
 turned flags this next l = record {
   each = λ q. omega (arith, l.each q);
   many = omega (arith, l.many);
 }
-
-pub set_put : (flags : List Bool) (places : List ℕ) (p : ℕ) → AreLevels flags places [] → p < length flags → is_set flags p ≡ false
-    → AreLevels (set flags p true) (places ++ p ∷ []) []
-set_put flags places p l lt off = turned _ _ _ (levels_put flags [] places p (turned _ _ _ l) lt off)
 
 pub set_room : (flags : List Bool) (places : List ℕ) (p : ℕ) → AreLevels flags places [] → p < length flags → is_set flags p ≡ false
     → length places < length flags

@@ -14,12 +14,6 @@ near_from first bucket n = grind (arith, common_steps)
 pub near_to : (first bucket : ℕ) → is_near first bucket ≡ true → bucket < first + 1024
 near_to first bucket n = grind (arith, common_steps)
 
-pub near_below : (first bucket : ℕ) → is_near first bucket ≡ true → bucket < NONE
-near_below first bucket n = grind (arith, common_steps)
-
-pub is_near_by : (first bucket : ℕ) → first ≤ bucket → bucket < first + 1024 → bucket < NONE → is_near first bucket ≡ true
-is_near_by first bucket a b c = grind (arith, common_steps)
-
 pub near_head : (heads first bucket : ℕ) → is_near first bucket ≡ true → far_or_near heads first bucket ≡ heads + (bucket - first)
 near_head heads first bucket n = rw n refl
 

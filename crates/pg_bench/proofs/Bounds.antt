@@ -15,9 +15,6 @@ module _ (own : ℕ → ℕ) (none : ℕ) where
   abbrev BelowIn : ℕ → ℕ → Type 0
   BelowIn places bound = (place : ℕ) → place < places → own place ≢ none → own place < bound
 
-  pub no_place : IsLeast (BelowIn 0) 0
-  no_place = record { meets = λ place within. absurd (omega arith); below = λ n meets. omega arith }
-
   one_place : (i place : ℕ) (bound : ℕ) → place < i + 1 → BelowIn i bound → (own i ≢ none → own i < bound) → own place ≢ none → own place < bound
   one_place i place bound within all last has = elim (cases_lt place i) [
     | inl less ↦ all place less has

@@ -8,7 +8,7 @@ use Rattle.pg_label.specs.declared.values.Value.{Value}
 use Rattle.pg_best.specs.declared.offers.Offer.{Offer}
 use Rattle.pg_label.specs.Values.{IsWithin, measure}
 use Rattle.pg_best.specs.Best.{Label, Belongs}
-use Rattle.pg_best.specs.Parts.{IsVertex, Part, IsAt, Include}
+use Rattle.pg_best.specs.Parts.{Part, IsAt, Include}
 use Rattle.pg_best.specs.LocalRelax.{IsItemAt, Fits}
 use Rattle.pg_best.specs.Relaxation.{Run, IsRun}
 use Rattle.pg_best.proofs.Support.{as_other, of_other, turned}
@@ -42,14 +42,3 @@ module _ (run : Run) (is : IsRun run) (by_pairs : (r : ℕ) → r < run.ranks �
       let less = lesser h.value o.value m fits.within in
       offers_below b from r h away'.0 back (subst (λ (l : List (Body Offer)). Contains l (Item h)) (is.taken from r away'.0 back) handled) (omega arith))
       s o (as_other run is r s rank other) sent (inr (refl, omega arith))
-
-  pub cell_belongs_by_pairs : (v : ℕ) (x : Value) → IsVertex run.n v → run.cell (run.owner v) (run.place v) ≡ Some x → Belongs run.label run.arcs v x
-  cell_belongs_by_pairs v x at has =
-      let r = run.owner v in
-      let rank : r < run.ranks = is.divided.owned v at in
-      (by_pairs r rank).cells run.arcs x.amount (suc x.hops) (is.divided.included r rank)
-      (λ from h away handled fits m.
-      let away' : IsOther r run.ranks from = of_other run is r from rank away in
-      let back = turned run is r from rank away' in
-      offers_below (suc (measure h.value)) from r h away'.0 back (subst (λ (l : List (Body Offer)). Contains l (Item h)) (is.taken from r away'.0 back) handled) (omega arith))
-      (run.place v) v x (is.divided.placed v at) has (inr (refl, omega arith))

@@ -25,9 +25,6 @@ start_most y = omega arith
 pub extended_most : (x y : Value) (cost : ℕ) → AtMost x y → AtMost (extended x cost) (extended y cost)
 extended_most x y cost h = omega arith
 
-pub below_most : (x y : Value) → Below x y → AtMost x y
-below_most x y h = omega arith
-
 pub below_by_hops : (x y : Value) → x.class ≡ y.class → x.amount ≤ y.amount → x.hops < y.hops → Below x y
 below_by_hops x y e m l = elim (cases_lt x.amount y.amount) [
   | inl less ↦ inr (e, inl less)

@@ -1,5 +1,5 @@
 -- Lists that agree in all rounds before a phase give the same labels, winners and hooks.
-use Rattle.std.proofs.Common.{◌≡◌, ◌==◌, ℕ, zero, suc, ◌+◌, ◌*◌, ◌<◌, List, ◌++◌, refl, sym, ◌∙◌, ap, subst, arith, All, Contains}
+use Rattle.std.proofs.Common.{◌≡◌, ◌==◌, ℕ, zero, suc, ◌+◌, ◌*◌, ◌<◌, List, ◌++◌, refl, ◌∙◌, ap, subst, arith, All, Contains}
 use Rattle.std.specs.Prelude.{min, if◌then◌else◌}
 use Rattle.pg_forest.specs.Phases.{point, steps}
 use Rattle.pg_group.specs.declared.messages.Body.{Body}
@@ -13,9 +13,6 @@ use Rattle.pg_boruvka.specs.LocalDense.{IsChosen}
 -- The items of all rounds before this one are the same.
 abbrev pub AgreeBelow : ℕ → List (List (Body Message)) → List (List (Body Message)) → Type 0
 AgreeBelow round lists others = (k : ℕ) → k < round → items_in k lists ≡ items_in k others
-
-pub agree_back : (round : ℕ) (lists others : List (List (Body Message))) → AgreeBelow round lists others → AgreeBelow round others lists
-agree_back round lists others agree k h = sym (agree k h)
 
 module _ (far : ℕ) (part : Part) (lists others : List (List (Body Message))) where
   pub winners_agree : (f : ℕ → ℕ) (p : ℕ) → items_in (3 * p) lists ≡ items_in (3 * p) others → items_in (3 * p + 1) lists ≡ items_in (3 * p + 1) others

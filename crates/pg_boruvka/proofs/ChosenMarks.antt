@@ -28,12 +28,6 @@ pub record AreMarkedTo (edges : List ℕ) (old now : List Bool) (i : ℕ) : Type
   pub same_count : length now ≡ length old
   pub marks : AreMarked (take i edges) old now
 
-pub marked_none : (edges : List ℕ) (old : List Bool) → AreMarkedTo edges old old 0
-marked_none edges old = record {
-  same_count = refl;
-  marks = λ i h. (λ t. inl t, λ t. ⊎_elim (λ same. same) (λ c. absurd (omega (arith, c.1))) t);
-}
-
 pub marked_more : (edges : List ℕ) (old now : List Bool) (i : ℕ) → i < length edges → slice_index edges i < length old → AreMarkedTo edges old now i
     → AreMarkedTo edges old (slice_set now (slice_index edges i) true) (i + 1)
 marked_more edges old now i h small is =

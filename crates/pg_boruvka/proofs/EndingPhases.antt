@@ -90,11 +90,6 @@ noted_none targets edges l none = cond-true (slice_index edges l == NO_EDGE) Non
 noted_some : (targets edges : List ℕ) (l : ℕ) → slice_index edges l ≢ NO_EDGE → noted targets edges l ≡ Some (record { source = l; target = slice_index targets l; edge = slice_index edges l })
 noted_some targets edges l some = cond-false (slice_index edges l == NO_EDGE) None (Some (record { source = l; target = slice_index targets l; edge = slice_index edges l })) (ne_eqb (slice_index edges l) NO_EDGE some)
 
-steps_walk : (f : ℕ → ℕ) (k l : ℕ) → steps f k l ≡ walk (point f) k l
-unfolding walk
-steps_walk f zero l = refl
-steps_walk f (suc k) l = steps_walk f k (point f l)
-
 -- Functions that agree on the numbers up to n, which they don't leave, lead to the same.
 module _ (n : ℕ) (f g : ℕ → ℕ) (agree : (l : ℕ) → l ≤ n → f l ≡ g l) (stays : (l : ℕ) → l ≤ n → f l ≤ n) where
   point_agrees : (l : ℕ) → l ≤ n → point f l ≡ point g l

@@ -350,9 +350,6 @@ kept_1 = record {
   sent_is = to_0 (λ to. list_at (sent_of 1) to ≡ lists 1 to) refl;
 }
 
-held_0 : (k : ℕ) (a : LocalArc) → Contains (part_of 0).arcs a → IsHeld 2 part_of a
-held_0 k a c = record { rank = 0; within = omega arith; among = c }
-
 two_edges : (P : ℕ → Type 0) → P 0 → P 1 → (i : ℕ) → i < 2 → P i
 two_edges P zeroth first i h = both_ranks P zeroth first i h
 

@@ -29,9 +29,6 @@ module _ {X : Type 0} (a k : ℕ) (xs ys : List X) (d : X) (room : a ≤ length 
       ∙ (get_or-append_right ys (drop k (drop a xs)) k (l - a) d long (omega arith)
       ∙ (get_or-drop k (drop a xs) (l - a - k) d ∙ (get_or-drop a xs (k + (l - a - k)) d ∙ ap (λ (j : ℕ). get_or xs j d) whole)))
 
-  pub beside_part : (l : ℕ) → length ys ≡ k → (l < a) ⊎ (a + k ≤ l) → get_or (put_mid a k xs ys) l d ≡ get_or xs l d
-  beside_part l long beside = ⊎_elim (λ h. before_part l h) (λ h. after_part l long h) beside
-
 -- The label is one of those whose winners were written, or not.
 cases_written : (from to l : ℕ) → (IsBetween from to l) ⊎ ((l < from) ⊎ (to ≤ l))
 cases_written from to l = ⊎_elim

@@ -91,10 +91,6 @@ pub record AreUnchanged (old now : List ℕ) (label : ℕ) : Type 0 where
   pub same : now ≡ old
   pub at_ends : (l : ℕ) → l < label → slice_index old (slice_index old l) ≡ slice_index old l
 
-two_steps : (f : ℕ → ℕ) (l : ℕ) → f (f l) ≡ walk f 2 l
-unfolding walk
-two_steps f l = refl
-
 -- Where the pointer of `label` leads, its entry leads one of the old steps or more on.
 after_is : (old now : List ℕ) (label : ℕ) → AreDoubled old now label → (l : ℕ) → l < length old → ◌⊎◌ (l < label) (label ≤ l) → IsReached old 1 l (slice_index now l)
 unfolding walk

@@ -1,7 +1,7 @@
 -- A rank keeps its promise when it handles a message.
 use Rattle.std.proofs.Common.{◌≡◌, ◌≢◌, ◌==◌, ◌⊎◌, ℕ, zero, suc, ◌+◌, ◌*◌, ◌/◌, ◌%◌, ◌<◌, ◌≤◌, Bool, true, false, List, [], ◌∷◌, ◌++◌, length, refl, sym, ◌∙◌, ap, subst, inl, inr, ⊎_elim, arith, Option, Some, None, Contains}
 use Rattle.std.specs.Prelude.{min, slice_index, if◌then◌else◌}
-use Rattle.std.proofs.lemmas.Bool.{cases_eq, cases_lt, eq-eqb, ne_eqb, cond-true, cond-false, cases_Bool, true≢false}
+use Rattle.std.proofs.lemmas.Bool.{cases_eq, cases_lt, ne_eqb, cond-false, cases_Bool, true≢false}
 use Rattle.std.proofs.lemmas.List.Elements.{Contains-append_left, Contains-append_right, Contains-append_cases}
 use Rattle.pg_group.specs.declared.messages.Body.{Body}
 use Rattle.pg_group.specs.declared.messages.Body.TheVariants.{Item, Mark}
@@ -239,14 +239,6 @@ none_some h e = cc
 
 no_hook : (o : Option Hook) (h : Hook) → o ≡ Some h → o ≡ None → ⊥
 no_hook o h some none = none_some h (sym none ∙ some)
-
--- A hook that is noted at a label is that label's.
-noted_source : (targets edges : List ℕ) (l : ℕ) (h : Hook) → noted targets edges l ≡ Some h → h.source ≡ l
-noted_source targets edges l h e = ⊎_elim
-    (λ none. absurd (none_some h (sym (cond-true (slice_index edges l == NO_EDGE) None (Some (record { source = l; target = slice_index targets l; edge = slice_index edges l })) (eq-eqb (slice_index edges l) NO_EDGE none)) ∙ e)))
-    (λ some. ap (λ (x : Hook). x.source) (sym (some_hook (record { source = l; target = slice_index targets l; edge = slice_index edges l }) h
-    (sym (cond-false (slice_index edges l == NO_EDGE) None (Some (record { source = l; target = slice_index targets l; edge = slice_index edges l })) (ne_eqb (slice_index edges l) NO_EDGE some)) ∙ e))))
-    (cases_eq (slice_index edges l) NO_EDGE)
 
 module _ (far : ℕ) (handled sent : List (List (Body Message))) (v : View) (from : ℕ) (h : Hook) (targets edges : List ℕ) (rank : v.part.rank < v.part.ranks) (other : IsOther v.part.rank v.part.ranks from)
     (taken : IsTaken v h targets edges) (keeps : HasChosen far handled sent v) where

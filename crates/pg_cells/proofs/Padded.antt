@@ -25,10 +25,6 @@ module _ {X : Type 0} where
   set_padded true xs n i x = refl
   set_padded false xs n i x = sym (ap (λ y. set (replicate n x) i y) (sym (get_replicate n i x)) ∙ set-get_or (replicate n x) i x)
 
-  pub all_padded : (f : Bool) (xs : List X) (n : ℕ) (x : X) → All (λ y. y ≡ x) xs → All (λ y. y ≡ x) (cond f xs (replicate n x))
-  all_padded true xs n x h = h
-  all_padded false xs n x h = All-replicate (λ y. y ≡ x) n x refl
-
   pub all_unset : (f : Bool) (xs : List X) (n : ℕ) (x : X) → f ≡ false → All (λ y. y ≡ x) (cond f xs (replicate n x))
   all_unset f xs n x h = subst (λ g. All (λ y. y ≡ x) (cond g xs (replicate n x))) (sym h) (All-replicate (λ y. y ≡ x) n x refl)
 

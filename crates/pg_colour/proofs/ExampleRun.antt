@@ -293,10 +293,6 @@ module _ (r o : ℕ) (apart : r ≢ o) (small : r < 2) (near : o < 2) (handled p
   unfolding list_of
   last_list = refl
 
-  last_own : own_of r 1 ≡ with_cell no_colours 0 r
-  unfolding own_of
-  last_own = refl
-
   last_pass : Passes p (seen_after p handled 4) [] (own_of r 1) (with_cell no_colours 0 r)
   unfolding own_of
   last_pass = λ place. refl

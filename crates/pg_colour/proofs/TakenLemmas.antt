@@ -69,11 +69,6 @@ slot_here part slots place arcs beside k d whole below are is by less =
     (subst (λ (xs : List Arc). IsSlotOf part.ghosts (get_or xs k d).to.0 (get_or (row_of part.bounds slots place) k None)) (sym is)
     (here.slot k d (subst (λ (xs : List Arc). k < length xs) is less)))
 
-pub beside_each : (part : Portion) (slots : List (Option ℕ)) (place : ℕ) → IsPortion part → place < length part.vertices → AreSlotsOf part.ghosts part.arcs slots
-    → length (row_of part.bounds slots place) ≡ length (row part place)
-beside_each part slots place whole below are =
-    (rows_have_slots part.ghosts part.arcs slots (length part.vertices) part.bounds are whole.bounds place below).each
-
 -- One of the first k arcs of the place ends at colour d.
 pub record IsTakenBelow (part : Portion) (own seen : Cells) (place k d : ℕ) : Type 0 where
   pub index : ℕ

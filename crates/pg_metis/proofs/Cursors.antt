@@ -2,7 +2,7 @@
 use Rattle.std.proofs.Common.{◌≡◌, ◌≢◌, ℕ, ◌+◌, ◌<◌, ◌≤◌, ◌++◌, ◌∙◌, List, [], ◌∷◌, length, get_or, set, take, slice_index, inl, inr, refl, sym, ap, subst, arith, All, AllPairs, Contains}
 use Rattle.std.proofs.lemmas.Bool.{cases_eq, cases_lt}
 use Rattle.std.proofs.lemmas.List.{take_all, take_more, get_or-set_same, get_or-set_other, get_or_append_left, get_or_push, length_push}
-use Rattle.std.proofs.lemmas.List.Elements.{All-nil, All-push}
+use Rattle.std.proofs.lemmas.List.Elements.{All-push}
 use Rattle.pg_base.specs.declared.edges.Edge.{Edge}
 use Rattle.pg_base.specs.Graph.{Precedes}
 use Rattle.pg_metis.specs.Ascending.{IsAtCursor}
@@ -72,12 +72,6 @@ one_met edges cursors new met e ascending below at moved are = record {
   passed = subst (λ (cs : List ℕ). All (IsPassed edges cs) (met ++ e ∷ [])) (sym moved)
       (All-push (IsPassed edges (set cursors e.u (slice_index cursors e.u + 1))) met e (λ k d within. still_passed edges cursors e.u (get_or met k d) below (are.passed k d within)) (now_passed edges cursors e below at));
   once = pairs_push (λ d e. d ≢ e) met e are.once (λ k d within. not_passed edges cursors (get_or met k d) e ascending (are.passed k d within) at);
-}
-
-pub none_met : (edges : List Edge) (cursors : List ℕ) → AreMet edges cursors []
-none_met edges cursors = record {
-  passed = All-nil (IsPassed edges cursors);
-  once = λ i j d below within. absurd (omega arith);
 }
 
 pub met_more : (back edges : List Edge) (cursors new : List ℕ) (i : ℕ) (d : Edge) → AllPairs Precedes edges → i < length back → (get_or back i d).u < length cursors → IsAtCursor (get_or back i d) edges cursors

@@ -1,21 +1,20 @@
 -- Lines without a fault name arcs line after line, each line other neighbours, all within the vertices.
 pub use Rattle.pg_metis.proofs.HeaderFaults.{header_known, header_within}
 pub use Rattle.pg_metis.proofs.LineFaults.{line_row}
-use Rattle.std.proofs.Common.{◌≡◌, ◌≢◌, ℕ, ◌+◌, ◌≤◌, leb, Option, Some, None, List, [], ◌∷◌, ◌++◌, length, map, refl, sym, ◌∙◌, subst, arith, All, AllPairs, Contains}
+use Rattle.std.proofs.Common.{◌≡◌, ◌≢◌, ℕ, ◌+◌, ◌≤◌, leb, Option, Some, None, List, [], ◌∷◌, ◌++◌, length, refl, sym, ◌∙◌, subst, arith, All, AllPairs, Contains}
 use Rattle.std.proofs.lemmas.Bool.{cond-true, le-leb}
-use Rattle.std.proofs.lemmas.List.{length-map}
-use Rattle.std.proofs.lemmas.List.Elements.{All-append, All-cons, All-contains, All-map, All-nil, All-weaker}
+use Rattle.std.proofs.lemmas.List.Elements.{All-append, All-cons, All-contains, All-nil, All-weaker}
 use Rattle.pg_base.specs.Graph.{Arc}
 use Rattle.pg_base.proofs.Members.{AllPairs-cons, contains_later}
 use Rattle.pg_text.specs.Text.{words}
 use Rattle.pg_metis.specs.declared.faults.Kind.{Kind}
 use Rattle.pg_metis.specs.Content.{NumberedLine}
-use Rattle.pg_metis.specs.File.{Header, line_arcs}
+use Rattle.pg_metis.specs.File.{Header}
 use Rattle.pg_metis.specs.Fault.{arcs_or_none, at_line, extra_fault, line_fault, lines_fault, named_arcs, vertex_fault}
 use Rattle.pg_metis.specs.Pairing.{AreNamed, IsNamed}
 use Rattle.pg_metis.proofs.HeaderFaults.{none_parts}
 use Rattle.pg_metis.proofs.LineFaults.{IsRow}
-use Rattle.pg_metis.proofs.ListLemmas.{AllPairs-append, AllPairs-map, AllPairs-nil, few_numbers}
+use Rattle.pg_metis.proofs.ListLemmas.{AllPairs-append, AllPairs-nil}
 
 pub row_within : (n v : ℕ) (earlier : List ℕ) (arcs : List Arc) → 1 ≤ v → v ≤ n → IsRow n v earlier arcs → All (IsNamed n) arcs
 row_within n v earlier [] first last row = All-nil (IsNamed n)
@@ -97,16 +96,3 @@ named_lines header v (line ∷ rest) first enough none =
 
 pub are_named : (header : Header) (rows : List NumberedLine) → lines_fault header 1 rows ≡ None → length rows ≡ header.n → AreNamed header.n (named_arcs header.format 1 rows)
 are_named header rows none long = (named_lines header 1 rows (omega arith) (omega arith) none).named
-
-row_names : (n v : ℕ) (earlier : List ℕ) (arcs : List Arc) → IsRow n v earlier arcs → All (λ a. (1 ≤ a.to) × (a.to ≤ n)) arcs
-row_names n v earlier [] row = All-nil (λ a. (1 ≤ a.to) × (a.to ≤ n))
-row_names n v earlier (a ∷ arcs) row = All-cons (λ a. (1 ≤ a.to) × (a.to ≤ n)) a arcs (row.2.first, row.2.last) (row_names n v (a.to ∷ earlier) arcs row.3)
-
--- A line without a fault names at most n neighbours.
-pub few_named : (header : Header) (v : ℕ) (line : List ℕ) → vertex_fault header v (words line) ≡ None → length (arcs_or_none (line_arcs header.format v line)) ≤ header.n
-few_named header v line none =
-    let row = line_row header v line none in
-    let within = All-map (λ (x : ℕ). (1 ≤ x) × (x ≤ header.n)) (λ (a : Arc). a.to) row.0 (row_names header.n v [] row.0 row.2) in
-    let few = few_numbers header.n (map (λ (a : Arc). a.to) row.0) within (AllPairs-map (λ (x y : ℕ). x ≢ y) (λ (a : Arc). a.to) row.0 (row_once header.n v [] row.0 row.2)) in
-    let long = length-map row.0 (λ (a : Arc). a.to) in
-    subst (λ (o : Option (List Arc)). length (arcs_or_none o) ≤ header.n) (sym row.1) (omega arith)

@@ -4,9 +4,8 @@ use Rattle.std.specs.Option.{option_map, option_or}
 use Rattle.std.proofs.lemmas.Bool.Decides.{nat_tests}
 use Rattle.std.proofs.lemmas.List.{length-map}
 use Rattle.std.proofs.lemmas.List.Elements.{All-head, All-tail}
-use Rattle.pg_base.specs.declared.TheConstants.{MAX_EDGES, MAX_VERTICES}
 use Rattle.pg_base.specs.declared.edges.Edge.{Edge}
-use Rattle.pg_base.specs.Graph.{Arc, Graph, IsGraph}
+use Rattle.pg_base.specs.Graph.{Arc, Graph}
 use Rattle.pg_metis.specs.declared.faults.GraphFault.{GraphFault}
 use Rattle.pg_metis.specs.declared.faults.GraphFault.TheVariants.{Refused, Failed, OutOfMemory}
 use Rattle.pg_metis.specs.declared.faults.Kind.{Kind}
@@ -88,15 +87,6 @@ told-refused header at rows kept fault numbers all full given first =
     let same = all (named_arcs header.format 1 lines) are.arcs in
     not-paired header at _ lines found (kept-count header lines rows kept are same full) (ap (λ (arcs : List Arc). first_unmirrored arcs arcs) (sym same) ∙ is) (ap (λ l. slice_index_or l (found.vertex - 1) 0) (given ∙ are.numbers)))
     first
-
-pub is-graph : (n m : ℕ) (arcs : List Arc) (edges : List Edge) → n ≤ MAX_VERTICES → m ≤ MAX_EDGES → length arcs ≡ 2 * m → AreEdgesOf n arcs edges → IsGraph (record { n = n; edges = edges })
-is-graph n m arcs edges few_vertices few_edges count are = record {
-  vertices = few_vertices;
-  size = let twice = are.count in omega arith;
-  within = are.within;
-  ascending = are.ascending;
-  positive = are.positive;
-}
 
 file-of : (header : Header) (at : ℕ) (lines : List NumberedLine) (text : List ℕ) (g : Graph) → HasLines header at lines text → AreLinesOf header lines g → FileOf text g
 file-of header at lines text g has are =

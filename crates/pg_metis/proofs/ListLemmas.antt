@@ -1,14 +1,11 @@
 -- Lists by their first element: what holds of each two.
-use Rattle.std.proofs.Common.{◌≡◌, ◌≢◌, ℕ, zero, suc, ◌+◌, ◌<◌, ◌≤◌, true, eqb, List, [], ◌∷◌, ◌++◌, length, map, inl, inr, sym, ◌∙◌, subst, arith, All, AllPairs, Contains, IsPermutation}
-use Rattle.std.specs.List.{list_any}
-use Rattle.std.proofs.lemmas.Bool.{cases_eq, eq-eqb, eqb-true, ne_eqb}
+use Rattle.std.proofs.Common.{◌≡◌, ◌≢◌, ℕ, zero, suc, ◌+◌, eqb, List, [], ◌∷◌, ◌++◌, map, inl, inr, sym, ◌∙◌, subst, arith, All, AllPairs, Contains, IsPermutation}
+use Rattle.std.proofs.lemmas.Bool.{cases_eq, eq-eqb, ne_eqb}
 use Rattle.std.proofs.lemmas.Bool.Decides.{Decides-eqb}
 use Rattle.std.proofs.lemmas.List.{get_or-map, length-map}
-use Rattle.std.proofs.lemmas.List.Elements.{All-append, All-cons, All-contains, All-contains_itself, All-map, All-weaker}
-use Rattle.std.proofs.lemmas.List.Folds.{Any-from_list_any}
+use Rattle.std.proofs.lemmas.List.Elements.{All-append, All-contains_itself, All-map, All-weaker}
 use Rattle.std.proofs.lemmas.Map.Keys.{IsDistinct-IsPermutation}
 use Rattle.std.proofs.lemmas.Map.Made.{AllPairs-from_IsDistinct, IsDistinct-from_AllPairs}
-use Rattle.std.proofs.lemmas.Map.Steps.{length-le_from_distinct_below}
 use Rattle.pg_base.proofs.Members.{AllPairs-cons, contains_first, contains_later}
 
 module _ {X : Type 0} (R : X → X → Type 0) where
@@ -49,16 +46,3 @@ flips x y = elim (cases_eq x y) [
 pub differ_moved : (xs ys : List ℕ) → IsPermutation xs ys → AllPairs (λ x y. x ≢ y) xs → AllPairs (λ x y. x ≢ y) ys
 differ_moved xs ys moved all =
     AllPairs-from_IsDistinct Decides-eqb ys (IsDistinct-IsPermutation eqb flips xs ys moved (IsDistinct-from_AllPairs Decides-eqb xs all))
-
--- Numbers of 1 to n of which each two differ are at most n.
-pub few_numbers : (n : ℕ) (xs : List ℕ) → All (λ x. (1 ≤ x) × (x ≤ n)) xs → AllPairs (λ x y. x ≢ y) xs → length xs ≤ n
-few_numbers n xs within differ =
-    let all = AllPairs-cons (λ x y. x ≢ y) 0 xs (All-weaker (λ x. (1 ≤ x) × (x ≤ n)) (λ x. 0 ≢ x) (λ x both same. let low = both.0 in omega arith) xs within) differ in
-    let below : (q : ℕ) → list_any (eqb q) (0 ∷ xs) ≡ true → q < n + 1 = λ q found.
-    let any = Any-from_list_any (eqb q) (0 ∷ xs) found in
-    let small : All (λ x. x ≤ n) (0 ∷ xs) = All-cons (λ x. x ≤ n) 0 xs (omega arith) (All-weaker (λ x. (1 ≤ x) × (x ≤ n)) (λ x. x ≤ n) (λ x both. both.1) xs within) in
-    let most = All-contains (λ x. x ≤ n) (0 ∷ xs) any.1 small (any.0, any.2, any.3) in
-    let same = eqb-true q any.1 any.4 in
-    omega arith in
-    let few = length-le_from_distinct_below (0 ∷ xs) (n + 1) (IsDistinct-from_AllPairs Decides-eqb (0 ∷ xs) all) below in
-    omega arith

@@ -25,13 +25,6 @@ leaves_none marks = record {
   others = λ v d first apart. refl;
 }
 
-pub takes_none : (marks : List Mark) → TakeMarks [] marks marks
-takes_none marks = record {
-  own = All-nil (λ a. a.from < a.to → (d : Mark) → IsMarkOf a (mark_at marks a.to d));
-  each = All-nil (λ a. a.from < a.to → (d : Mark) → mark_at marks a.to d ≡ met (mark_at marks a.to d));
-  others = λ v d first apart. refl;
-}
-
 -- A write at one vertex leaves the marks of the others.
 kept : (marks : List Mark) (v w : ℕ) (m d : Mark) → 1 ≤ v → 1 ≤ w → w ≢ v → mark_at (set marks (v - 1) m) w d ≡ mark_at marks w d
 kept marks v w m d first first' apart = get_or-set_other marks (v - 1) (w - 1) m d (λ same. apart (omega arith))

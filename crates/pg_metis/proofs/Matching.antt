@@ -1,16 +1,13 @@
 -- How far the arcs of a line to greater vertices are the edges from its vertex, in their order.
-use Rattle.std.proofs.Common.{◌≡◌, ◌≢◌, ℕ, ◌+◌, ◌<◌, ◌≤◌, ◌++◌, ◌∙◌, ◌&&◌, Bool, false, eqb, not, List, [], ◌∷◌, length, get_or, sym, ap, subst, arith, All}
+use Rattle.std.proofs.Common.{◌≡◌, ℕ, ◌+◌, ◌<◌, ◌≤◌, ◌++◌, ◌∙◌, ◌&&◌, Bool, false, eqb, not, List, [], ◌∷◌, length, get_or, sym, ap, arith, All}
 use Rattle.std.proofs.lemmas.Bool.{and_parts, eqb-true, not-false}
-use Rattle.std.proofs.lemmas.List.Elements.{All-nil}
 use Rattle.std.specs.List.{between}
-use Rattle.std.proofs.lemmas.List.Edits.{between_none, between_more}
+use Rattle.std.proofs.lemmas.List.Edits.{between_more}
 use Rattle.pg_base.specs.declared.edges.Edge.{Edge}
-use Rattle.pg_base.specs.Graph.{Arc}
 use Rattle.pg_metis.specs.declared.pairing.NamedArc.{NamedArc}
-use Rattle.pg_metis.specs.Lines.{IsInOrder}
 use Rattle.pg_metis.specs.Mirrors.{edge_forth, forth_edges}
 use Rattle.pg_metis.specs.Pairing.{arc_of, arcs_named}
-use Rattle.pg_metis.proofs.NamedArcs.{forth_passed, forth_pushed, length-named, named_at}
+use Rattle.pg_metis.proofs.NamedArcs.{forth_passed, forth_pushed}
 use Rattle.pg_metis.proofs.Marking.{all_longer, line_longer}
 
 pub same_edge : (d e : Edge) → d.u ≡ e.u → d.v ≡ e.v → d.w ≡ e.w → d ≡ e
@@ -24,17 +21,6 @@ pub record IsMatched (u : ℕ) (xs : List NamedArc) (edges : List Edge) (arc edg
   pub edges_within : next_edge ≤ length edges
   pub row : All (λ e. e.u ≡ u) (between edge next_edge edges)
   pub same : between edge next_edge edges ≡ forth_edges (between arc next_arc (arcs_named xs))
-
-pub matched_none : (u : ℕ) (xs : List NamedArc) (edges : List Edge) (arc edge : ℕ) → arc ≤ length xs → edge ≤ length edges → IsMatched u xs edges arc edge arc edge
-matched_none u xs edges arc edge arcs_within edges_within = record {
-  arcs_rise = omega arith;
-  arcs_within = arcs_within;
-  line = subst (λ (ls : List Arc). All (λ a. a.from ≡ u) ls) (sym (between_none (arcs_named xs) arc)) (All-nil (λ (a : Arc). a.from ≡ u));
-  edges_rise = omega arith;
-  edges_within = edges_within;
-  row = subst (λ (es : List Edge). All (λ e. e.u ≡ u) es) (sym (between_none edges edge)) (All-nil (λ (e : Edge). e.u ≡ u));
-  same = between_none edges edge ∙ sym (ap forth_edges (between_none (arcs_named xs) arc));
-}
 
 -- What a comparison of edges says.
 pub edge_equal : (d e : Edge) (differ : Bool) → differ ≡ not (eqb d.u e.u && (eqb d.v e.v && eqb d.w e.w)) → differ ≡ false → d ≡ e
@@ -70,22 +56,4 @@ matched_lesser u xs edges arc edge next_arc next_edge d matched below own least 
   edges_within = matched.edges_within;
   row = matched.row;
   same = matched.same ∙ sym (forth_passed xs arc next_arc d matched.arcs_rise below (omega arith));
-}
-
-pub matched_all : (u : ℕ) (xs : List NamedArc) (edges : List Edge) (arc edge next_arc next_edge : ℕ) (d : NamedArc) → IsMatched u xs edges arc edge next_arc next_edge → (next_arc < length xs → (get_or xs next_arc d).from ≢ u)
-    → ((e : Edge) → next_edge < length edges → (get_or edges next_edge e).u ≢ u) → IsInOrder u (arcs_named xs) edges arc edge next_arc next_edge
-matched_all u xs edges arc edge next_arc next_edge d matched arcs_end edges_end = record {
-  line = record {
-    rises = matched.arcs_rise;
-    within = omega (arith, matched.arcs_within, length-named xs);
-    run = matched.line;
-    next = λ a below same. arcs_end (omega (arith, length-named xs)) (sym (ap (λ (b : Arc). b.from) (named_at xs next_arc d a (omega (arith, length-named xs)))) ∙ same);
-  };
-  row = record {
-    rises = matched.edges_rise;
-    within = matched.edges_within;
-    run = matched.row;
-    next = edges_end;
-  };
-  same = matched.same;
 }

@@ -3,7 +3,6 @@ use Rattle.std.proofs.Common.{◌≡◌, ℕ, ◌+◌, ◌-◌, ◌<◌, ◌≤�
 use Rattle.std.specs.List.{between}
 use Rattle.std.proofs.lemmas.Bool.{lt-ltb, le-ltb}
 use Rattle.std.proofs.lemmas.List.{length-map, take_more, get_or-map}
-use Rattle.std.proofs.lemmas.List.Elements.{All-weaker}
 use Rattle.std.proofs.lemmas.List.Edits.{between_more}
 use Rattle.pg_base.specs.Graph.{Arc}
 use Rattle.pg_metis.specs.declared.pairing.NamedArc.{NamedArc}
@@ -31,14 +30,6 @@ named_more xs i d below =
 pub line_more : (xs : List NamedArc) (from i : ℕ) (d : NamedArc) → from ≤ i → i < length xs → between from (i + 1) (arcs_named xs) ≡ between from i (arcs_named xs) ++ arc_of (get_or xs i d) ∷ []
 line_more xs from i d rises below =
     between_more (arcs_named xs) from i (arc_of d) rises (omega (arith, length-named xs)) ∙ ap (λ (a : Arc). between from i (arcs_named xs) ++ a ∷ []) (named_at xs i d (arc_of d) below)
-
--- A bound on the vertices may be greater.
-pub named_within : (n m : ℕ) (arcs : List Arc) → n ≤ m → AreNamed n arcs → AreNamed m arcs
-named_within n m arcs less named = record {
-  within = All-weaker (IsNamed n) (IsNamed m) (λ a is. record { from_first = is.from_first; from_last = omega (arith, is.from_last); to_first = is.to_first; to_last = omega (arith, is.to_last); other = is.other; weight = is.weight }) arcs named.within;
-  ascending = named.ascending;
-  once = named.once;
-}
 
 -- One arc more tells one edge more if it goes to a lesser vertex.
 pub back_pushed : (xs : List NamedArc) (i : ℕ) (d : NamedArc) → i < length xs → (get_or xs i d).to < (get_or xs i d).from

@@ -1,5 +1,5 @@
 -- From the refusal of a step to that of the step that it is a part of.
-use Rattle.std.proofs.Common.{ℕ, Bool, Result, Ok, Err}
+use Rattle.std.proofs.Common.{ℕ, Bool, Err}
 use Rattle.pg_text.specs.declared.faults.TextFault.{TextFault}
 use Rattle.pg_text.specs.declared.faults.TextFault.TheVariants as text
 use Rattle.pg_text.specs.Answers.{OnTooLong}
@@ -26,10 +26,3 @@ pub refused-passed : (fault : GraphFault) (P Q : Fault → Type 0) → ((f : Fau
 refused-passed (Refused line kind) P Q f h = f (record { line = line; kind = kind }) h
 refused-passed Failed P Q f h = tt
 refused-passed OutOfMemory P Q f h = tt
-
--- A refusal by the last step.
-pub refused-weaker : {A : Type 0} (r : Result A GraphFault) (P Q : Fault → Type 0) → ((f : Fault) → P f → Q f) → OnRefused r P → OnRefused r Q
-refused-weaker (Ok x) P Q f h = tt
-refused-weaker (Err (Refused line kind)) P Q f h = f (record { line = line; kind = kind }) h
-refused-weaker (Err Failed) P Q f h = tt
-refused-weaker (Err OutOfMemory) P Q f h = tt

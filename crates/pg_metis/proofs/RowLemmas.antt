@@ -21,9 +21,6 @@ past-numbers header v (word ∷ passed) left more zero are e = absurd (omega ari
 past-numbers header v (word ∷ passed) left more (suc many) are e =
     rw (All-head (λ word. is_number word ≡ true) word passed are) (past-numbers header v passed left more many (All-tail (λ word. is_number word ≡ true) word passed are) (omega arith))
 
-pub skips-none : (ws : List (List ℕ)) → Skips 0 ws ws
-skips-none ws = record { passed = []; split = refl; count = refl; numbers = λ k d h. absurd (omega arith) }
-
 pub skips-more : (many : ℕ) (ws left rest : List (List ℕ)) (word : List ℕ) → Skips many ws left → left ≡ word ∷ rest → is_number word ≡ true → Skips (many + 1) ws rest
 skips-more many ws left rest word skips next is = record {
   passed = skips.passed ++ word ∷ [];

@@ -1,8 +1,8 @@
 -- What one arc more does to the edges of the arcs to greater vertices, and to those of the others.
-use Rattle.std.proofs.Common.{◌≡◌, ℕ, ◌+◌, ◌<◌, ◌≤◌, ◌++◌, ◌∙◌, ◌⊎◌, List, [], ◌∷◌, ◌/◌, ltb, length, get_or, set, take, filter, inl, inr, refl, sym, ap, subst, arith, All, AllPairs, Contains}
+use Rattle.std.proofs.Common.{◌≡◌, ℕ, ◌+◌, ◌<◌, ◌≤◌, ◌++◌, ◌∙◌, ◌⊎◌, List, [], ◌∷◌, ◌/◌, ltb, length, get_or, set, take, filter, inl, inr, sym, ap, subst, arith, All, AllPairs, Contains}
 use Rattle.std.proofs.lemmas.Bool.{cases_eq, lt-ltb, le-ltb}
-use Rattle.std.proofs.lemmas.List.{take_all, length-map, length-set, length-take-le, get_or-set_same, get_or-set_other}
-use Rattle.std.proofs.lemmas.List.Elements.{All-nil, All-push}
+use Rattle.std.proofs.lemmas.List.{length-map, length-set, length-take-le, get_or-set_same, get_or-set_other}
+use Rattle.std.proofs.lemmas.List.Elements.{All-push}
 use Rattle.std.proofs.lemmas.List.Sums.{length-filter, count_by-le-length}
 use Rattle.pg_base.specs.declared.TheConstants.{MAX_VERTICES}
 use Rattle.pg_base.specs.declared.edges.Edge.{Edge}
@@ -48,13 +48,6 @@ pub record AreForth (arcs : List Arc) (last : Edge) (edges : List Edge) : Type 0
   pub ascending : AllPairs Precedes edges
   pub least : All (IsUpTo last) edges
 
-pub none_forth : (last : Edge) (edges : List Edge) → edges ≡ [] → AreForth [] last edges
-none_forth last edges none = subst (AreForth [] last) (sym none) (record {
-  are = refl;
-  ascending = λ i j d below within. absurd (omega arith);
-  least = All-nil (IsUpTo last);
-})
-
 more_forth : (arcs more : List Arc) (last next : Edge) (edges : List Edge) → AreForth arcs last edges → Precedes last next → forth_edges more ≡ forth_edges arcs ++ next ∷ [] → AreForth more next (edges ++ next ∷ [])
 more_forth arcs more last next edges old later is = record {
   are = ap (λ (es : List Edge). es ++ next ∷ []) old.are ∙ sym is;
@@ -83,9 +76,6 @@ forth_same xs i d last edges below least old = record {
   least = old.least;
 }
 
-pub forth_all : (xs : List NamedArc) (i : ℕ) (last : Edge) (edges : List Edge) → length xs ≤ i → AreForth (take i (arcs_named xs)) last edges → AreForth (arcs_named xs) last edges
-forth_all xs i last edges past old = subst (λ (arcs : List Arc). AreForth arcs last edges) (take_all i (arcs_named xs) (omega (arith, length-named xs))) old
-
 -- They are no more than the arcs.
 pub forth_few : (xs : List NamedArc) (i : ℕ) (last : Edge) (edges : List Edge) → i < length xs → AreForth (take i (arcs_named xs)) last edges → length edges < length xs
 forth_few xs i last edges below old =
@@ -109,9 +99,6 @@ all_set {X} P xs i x all here k d within =
       | inl same ↦ subst (λ (j : ℕ). P (get_or (set xs i x) j d)) (sym same) (subst P (sym (get_or-set_same xs i x d (omega arith))) here)
       | inr other ↦ subst P (sym (get_or-set_other xs i k x d other)) (all k d (omega arith))
     ]
-
-pub blank_back : (arcs : List Arc) (edges : List Edge) → All (λ e. e.u ≡ 0) edges → AreBackOrBlank arcs edges
-blank_back arcs edges blank k d within = inl (blank k d within)
 
 pub back_more : (xs : List NamedArc) (i place : ℕ) (d : NamedArc) (e : Edge) (back new : List Edge) → i < length xs → AreBackOrBlank (arcs_named xs) back → e ≡ edge_back (arc_of (get_or xs i d)) → new ≡ set back place e → AreBackOrBlank (arcs_named xs) new
 back_more xs i place d e back new below old of is =

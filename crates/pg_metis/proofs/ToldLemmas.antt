@@ -2,15 +2,6 @@
 use Rattle.std.proofs.Common.{Option, Some, None, IfSome}
 use Rattle.pg_text.specs.Coming.{Told}
 
-pub told-same : {X : Type 0} (a : Option X) (P : X → X → Type 0) → ((x : X) → P x x) → Told a a P
-told-same None P f = tt
-told-same (Some x) P f = f x
-
-pub told-weaker : {X Y : Type 0} (a : Option X) (b : Option Y) (P Q : X → Y → Type 0) → Told a b P → ((x : X) (y : Y) → P x y → Q x y) → Told a b Q
-told-weaker None b P Q h f = tt
-told-weaker (Some x) None P Q h f = absurd h
-told-weaker (Some x) (Some y) P Q h f = f x y h
-
 pub told-on : {X Y Z : Type 0} (a : Option X) (b : Option Y) (c : Option Z) (P : X → Y → Type 0) (Q : Y → Z → Type 0) (R : X → Z → Type 0) → Told a b P → Told b c Q → ((x : X) (y : Y) (z : Z) → P x y → Q y z → R x z) → Told a c R
 told-on None b c P Q R h k f = tt
 told-on (Some x) None c P Q R h k f = absurd h

@@ -50,11 +50,6 @@ and_both true true e = (refl, refl)
 and_both true false e = cc
 and_both false b e = cc
 
-both_and : (a b : Bool) → a ≡ true → b ≡ true → (a && b) ≡ true
-both_and true true d e = refl
-both_and true false d e = cc
-both_and false b d e = cc
-
 -- the test of arcs is equality
 pub same_arc : (a b : LocalArc) → is_arc a b ≡ true → a ≡ b
 same_arc a b e = search (arith, and_both)

@@ -27,9 +27,6 @@ module _ {X Y : Type 0} where
   mapped_member : (f : X → Y) (xs : List X) (x : X) → Contains xs x → Contains (map f xs) (f x)
   mapped_member f xs x c = (c.0, omega (arith, c.1, length-map xs f), get_or-map f xs c.0 x (f x) c.1 ∙ ap f c.2)
 
-number_same : (u v : ℕ) → (u == v) ≡ true → u ≡ v
-number_same u v e = search arith
-
 same_number : (v : ℕ) → (v == v) ≡ true
 same_number v = search arith
 

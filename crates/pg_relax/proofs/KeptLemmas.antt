@@ -49,26 +49,6 @@ pub runs : (part : Part) (handled sent : List (List (Body Offer))) (due : LocalA
 runs part handled sent due round true sends m = let own = m.own refl in let e : None ≡ Some own.0 = own.1 in cc
 runs part handled sent due round false sends m = refl
 
--- fewer arcs are due than before
-pub less_marks : (part : Part) (handled sent : List (List (Body Offer))) (due due' : LocalArc → Bool) (round : ℕ) (cast : Option Vote) (over sends : Bool)
-    → ((a : LocalArc) → due' a ≡ true → due a ≡ true) → Marks part handled sent due round cast over sends → Marks part handled sent due' round cast over sends
-less_marks part handled sent due due' round cast over sends less m = record {
-  from_each = m.from_each;
-  to_each = m.to_each;
-  running = m.running;
-  closed = m.closed;
-  given = m.given;
-  even = m.even;
-  cast_even = m.cast_even;
-  present = m.present;
-  after = m.after;
-  quiet = λ vote e q a busy. m.quiet vote e q a (less a busy);
-  ended = m.ended;
-  own = m.own;
-  told = m.told;
-  going = m.going;
-}
-
 vote_at : (votes : List Vote) (k : ℕ) → k < length votes → (vote : Vote) × (slice_get votes k ≡ Some vote)
 vote_at [] k h = absurd (omega arith)
 vote_at (v ∷ vs) zero h = (v, refl)

@@ -192,10 +192,6 @@ next_started label p n class values values' pending pending' some within low o =
       }
 ]
 
--- all places are opened
-pub all_opened : (label : Label) (p : Portion) (values : List Value) (pending : Places) → IsOpenBelow (length p.vertices) label p values pending → IsOpening label p values pending
-all_opened label p values pending o = record { value = o.value; marked = o.marked; none = o.none; rests = o.rests; past = o.past }
-
 -- one place more is opened
 pub opened_next : (label : Label) (p : Portion) (n : ℕ) (values values' : List Value) (pending pending' : Places) → n < length values
     → ((class : ℕ) → label.start (slice_index p.vertices n) ≡ Some class → IsLowered n (start_value class) values pending values' pending')

@@ -97,9 +97,6 @@ module _ {P M B : Type 0} {p : ProgramGhosts P B} {m : MailboxGhosts M B} {o : O
     pub rest : (rank : ℕ) → n ≤ rank → list_at (m.taken b.outlet.port) rank ≡ list_at (m.taken a.outlet.port) rank
     pub sent : items_together (o.sent b.outlet.port) ≤ items_together (o.sent a.outlet.port) + 0
 
-  pub polled_none : (most : ℕ) (a : Runner P M B p m o) → PolledBelow most 0 a a
-  polled_none most a = record { below = λ rank h. absurd (omega arith); rest = λ rank h. refl; sent = omega arith }
-
   pub polled_more : (most n : ℕ) (a b c : Runner P M B p m o) → PolledBelow most n a b → AtMost most 0 b c → OnlyFrom n b c → PolledBelow most (n + 1) a c
   polled_more most n a b c f g only = record {
     below = λ rank h. elim (cases_eq rank n) [

@@ -57,10 +57,6 @@ module _ {T : Type 0} (Step : T → T → Type 0) where
     each = λ place x at. let y = f.each place x at in (y.0, y.1, y.2 (omega (arith, slice_get_within b place x at)));
   }
 
-  -- no machine had a turn yet
-  pub none_repeated : (xs : List T) → AllStepped (Repeated Step 0) xs xs
-  none_repeated xs = record { long = refl; each = λ place x at. (x, at, refl) }
-
   -- each machine had a turn more
   pub one_repeated : (n : ℕ) (a b c : List T) → AllStepped (Repeated Step n) a b → AllStepped Step b c → AllStepped (Repeated Step (n + 1)) a c
   one_repeated n a b c f g = record {

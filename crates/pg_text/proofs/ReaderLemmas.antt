@@ -69,10 +69,6 @@ consumes-keeps (Some t) None c line h k = absurd h
 consumes-keeps (Some t) (Some u) None line h k = absurd k
 consumes-keeps (Some t) (Some u) (Some v) line h k = h ∙ ap (λ w. line ++ w) (sym k)
 
-pub consumes-none : (a : Option (List ℕ)) → Consumes a a []
-consumes-none None = tt
-consumes-none (Some t) = refl
-
 plain-append : (xs ys : List ℕ) → HasNoNewline xs → HasNoNewline ys → HasNoNewline (xs ++ ys)
 plain-append xs ys p q = All-append (λ x. is_newline x ≡ false) xs ys p q
 

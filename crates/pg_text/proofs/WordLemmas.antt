@@ -1,5 +1,5 @@
 -- The words of a line from the front.
-use Rattle.std.proofs.Common.{◌≡◌, ◌⊎◌, inl, inr, ℕ, ◌+◌, ◌<◌, ◌≤◌, Bool, true, false, not, if◌then◌else◌, List, [], ◌∷◌, ◌++◌, length, All, refl, sym, ap, ◌∙◌, arith}
+use Rattle.std.proofs.Common.{◌≡◌, ◌⊎◌, inl, inr, ℕ, ◌+◌, ◌<◌, true, false, not, List, [], ◌∷◌, ◌++◌, length, All, refl, sym, ap, ◌∙◌, arith}
 use Rattle.std.proofs.lemmas.List.Elements.{All-head, All-tail}
 use Rattle.pg_text.specs.Text.{words, is_blank, begins_word, onto_first}
 use Rattle.pg_text.specs.Cuts.{CutsBlanks, CutsRun}
@@ -46,15 +46,3 @@ words-none line blanks more (b ∷ run) rest skip cut none = absurd (omega arith
 words-none line blanks more [] rest skip cut none =
     let nil = none-left more skip.stop (ap begins_word cut.whole ∙ cut.stop) in
     (ap words skip.whole ∙ words-blanks blanks more skip.blank ∙ nil, ap words (sym cut.whole) ∙ nil)
-
-more-words : (b : ℕ) (blank go : Bool) (ws : List (List ℕ)) → length (if blank then ws else (if go then onto_first b ws else (b ∷ []) ∷ ws)) ≤ length ws + 1
-more-words b true go ws = omega arith
-more-words b false true [] = omega arith
-more-words b false true (w ∷ ws) = omega arith
-more-words b false false ws = omega arith
-
--- A line has no more words than bytes.
-pub words-few : (line : List ℕ) → length (words line) ≤ length line
-unfolding words
-words-few [] = omega arith
-words-few (b ∷ line) = omega (arith, words-few line, more-words b (is_blank b) (begins_word line) (words line))

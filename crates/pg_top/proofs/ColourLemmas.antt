@@ -1,6 +1,6 @@
 -- A colouring of a divided graph ends with proper colours, on one rank those of first fit.
-use Rattle.std.proofs.Common.{◌≡◌, ◌↔◌, ℕ, suc, zero, ◌+◌, ◌-◌, ◌<◌, ◌≤◌, List, [], ◌∷◌, length, map, get_or, refl, sym, ap, ◌∙◌, subst, arith, inl, inr, Option, Some, None}
-use Rattle.std.specs.Prelude.{IfSome, option_and_then, slice_get, slice_index_or, unwrap_or}
+use Rattle.std.proofs.Common.{◌≡◌, ℕ, suc, zero, ◌+◌, ◌-◌, ◌<◌, ◌≤◌, List, [], ◌∷◌, length, map, get_or, refl, sym, ap, ◌∙◌, subst, arith, inl, inr, Option, Some, None}
+use Rattle.std.specs.Prelude.{option_and_then, slice_get, slice_index_or, unwrap_or}
 use Rattle.std.proofs.lemmas.Bool.{cases_lt, ne_eqb}
 use Rattle.std.proofs.lemmas.List.Elements.{All-contains}
 use Rattle.std.proofs.lemmas.Option.{get_or_from_slice_get, slice_get_within}
@@ -78,14 +78,6 @@ in_order programs parts same order k p at =
     let there : slice_get parts k ≡ Some (part_in p) = ap (λ l. slice_get l k) (sym same) ∙ entry_map part_in programs k p at in
     let said = order k (part_in p) there in
     (said.0, said.1 ∙ (ap length (sym same) ∙ length_of_map part_in programs))
-
--- what a colour is that may be wanting
-pub colour_from : (r : Option ℕ) (x : ℕ) → (r ≡ None) ↔ (x ≡ NO_COLOUR) → IfSome r (λ colour. x ≡ colour) → r ≡ colour_in x
-colour_from None x none some = let is : x ≡ NO_COLOUR = none.0 refl in sym (ap colour_in is)
-colour_from (Some c) x none some =
-    let apart : x ≡ NO_COLOUR → ⊥ = λ is. let h : Some c ≡ None = none.1 is in absurd (cc h) in
-    let yes : colour_in x ≡ Some x = rw (ne_eqb x NO_COLOUR apart) refl in
-    ap Some (sym some) ∙ sym yes
 
 module _ (s : Sharing) (g : Graph) (capacity : ℕ) (programs : List Colouring) (lanes : List (Settled (Envelope CellBody))) (run : IsColouring s g capacity programs lanes) where
   below_ranks : (r : ℕ) (p : Colouring) → slice_get programs r ≡ Some p → r < s.ranks

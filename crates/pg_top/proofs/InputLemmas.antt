@@ -1,5 +1,5 @@
 -- What holds of the files of a plan, and of the texts that are told under their names.
-use Rattle.std.proofs.Common.{◌≡◌, ℕ, Option, Some, None, List, ap, refl, sym, subst}
+use Rattle.std.proofs.Common.{◌≡◌, ℕ, Option, Some, None, List, ap, refl, subst}
 use Rattle.pg_base.specs.Graph.{Graph}
 use Rattle.pg_outside.specs.Files.{NamedBytes, IsMissing}
 use Rattle.pg_metis.specs.File.{FileOf}
@@ -44,20 +44,6 @@ files_of_input Components plan files P reads h = h
 files_of_input Forest plan files P reads h = h
 files_of_input Colour plan files P reads h = h
 files_of_input Grid plan files P reads h = absurd (reads refl)
-
-pub input_of_files : (a : Algorithm) (plan : Meaning) (files : Option (List NamedBytes)) (P : Graph → Option (List ℕ) → Type 0) → ReadsFiles a
-    → HasGraph plan.file files (λ g. HasOwners plan.parts files g.n plan.ranks (P g)) → HasInputOf a plan files P
-input_of_files Bfs plan files P reads h = h
-input_of_files Sssp plan files P reads h = h
-input_of_files Components plan files P reads h = h
-input_of_files Forest plan files P reads h = h
-input_of_files Colour plan files P reads h = h
-input_of_files Grid plan files P reads h = absurd (reads refl)
-
--- What holds of the grid holds of the input of an algorithm that makes it.
-pub input_of_grid : (a : Algorithm) (plan : Meaning) (files : Option (List NamedBytes)) (P : Graph → Option (List ℕ) → Type 0) → a ≡ Grid
-    → P (grid_of plan.width plan.height plan.seed) None → HasInputOf a plan files P
-input_of_grid a plan files P is h = subst (λ (x : Algorithm). HasInputOf x plan files P) (sym is) h
 
 pub grid_of_input : (a : Algorithm) (plan : Meaning) (files : Option (List NamedBytes)) (P : Graph → Option (List ℕ) → Type 0) → a ≡ Grid
     → HasInputOf a plan files P → P (grid_of plan.width plan.height plan.seed) None

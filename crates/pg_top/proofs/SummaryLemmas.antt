@@ -1,12 +1,11 @@
 -- What a summary tells, once it is counted.
-use Rattle.std.proofs.Common.{◌≡◌, ◌∙◌, ℕ, Option, Some, List, length, ap}
+use Rattle.std.proofs.Common.{◌≡◌, ◌∙◌, ℕ, Option, List, ap}
 use Rattle.pg_base.specs.declared.edges.Edge.{Edge}
 use Rattle.pg_base.specs.Distances.{AreLeastArcs}
 use Rattle.pg_base.specs.Graph.{Graph}
 use Rattle.pg_print.specs.Summaries.{summary_text}
 use Rattle.pg_print.specs.declared.summaries.Summary.{Summary}
 use Rattle.pg_top.specs.Summary.{clash_count, summary_of}
-use Rattle.std.proofs.lemmas.List.{length-map}
 use Rattle.pg_lane.specs.declared.settling.Settled.{Settled}
 use Rattle.pg_group.specs.declared.messages.Envelope.{Envelope}
 use Rattle.pg_cells.specs.declared.bodies.CellBody.{CellBody}
@@ -34,8 +33,5 @@ is_summary g hops weights roots tree colours found arcs least lowest forest apar
 }
 
 module _ (owners : Option (List ℕ)) (ranks capacity : ℕ) (g : Graph) (answers : List (Option ℕ)) (programs : List Colouring) (lanes : List (Settled (Envelope CellBody))) (has : HasColours owners ranks capacity g answers programs lanes) where
-  pub colours_count : length answers ≡ g.n
-  colours_count = ap length has.listed ∙ (length-map has.colours Some ∙ has.right.proper.count)
-
   pub colours_apart : clash_count g.edges answers ≡ 0
   colours_apart = none_clash g answers has.colours has.listed has.right.proper

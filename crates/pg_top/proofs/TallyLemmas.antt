@@ -42,19 +42,6 @@ module _ (distances : List (Option ℕ)) (i : ℕ) (t : Tally) (is : IsTallied d
     most = omega (arith, is.most, small);
   }
 
-  pub with_none : get_or distances i None ≡ None → IsTallied distances (i + 1) t
-  with_none at =
-      let counted : count_by is_some (take (i + 1) distances) ≡ t.count + 0 = count_more ∙ ap (λ (a : Option ℕ). t.count + cond (is_some a) 1 0) at in
-      let farthest : greatest (take (i + 1) distances) ≡ max t.far 0 = far_more ∙ ap (λ (a : Option ℕ). max t.far (number_in a)) at in
-      let summed : sum_by number_in (take (i + 1) distances) ≡ t.sum + 0 = sum_more ∙ ap (λ (a : Option ℕ). t.sum + number_in a) at in
-      record {
-        count = omega (arith, counted);
-        far = omega (arith, farthest);
-        sum = omega (arith, summed);
-        few = omega (arith, is.few);
-        most = omega (arith, is.most);
-      }
-
 -- ---- the other counts
 
 abbrev is_lowest : List (Option ℕ) → ℕ → Bool

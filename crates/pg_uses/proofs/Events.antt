@@ -97,15 +97,6 @@ end_in_none (suc k) (sent to body ∷ events) = end_in_none (suc k) events
 end_in_none zero (closed ∷ events) = ap (λ l. closed ∷ l) (end_in_none zero events)
 end_in_none (suc k) (closed ∷ events) = end_in_none (suc k) events
 
-pub none_to_come : (k : ℕ) (events : List Event) → rounds events ≡ k → events_of (suc k) events ≡ []
-none_to_come k [] now = refl
-none_to_come zero (round_ended ∷ events) now = absurd (omega (arith, now))
-none_to_come (suc k) (round_ended ∷ events) now = none_to_come k events (omega (arith, now))
-none_to_come k (put v x ∷ events) now = none_to_come k events now
-none_to_come k (handled from body ∷ events) now = none_to_come k events now
-none_to_come k (sent to body ∷ events) now = none_to_come k events now
-none_to_come k (closed ∷ events) now = none_to_come k events now
-
 -- ---- what is handled, sent and put
 
 passed_on : {X : Type 0} (b : Bool) (x : X) (xs ys zs : List X) → zs ≡ xs ++ ys → cond b (x ∷ zs) zs ≡ cond b (x ∷ xs) xs ++ ys

@@ -287,9 +287,6 @@ stop_sent s t step backward busy over nothing =
 pub stop_phase : (s t : CellState) → CellsStep max no_degree s round_ended t → s.flags.backward ≡ true → is_filling s.phase ≡ false → synchronizes s ≡ true → is_filling t.phase ≡ true
 stop_phase s t step backward busy over = ap is_filling (stopped s.phase s t step.1 backward busy over).1
 
-pub again_phase : (s t : CellState) → CellsStep max no_degree s round_ended t → s.flags.backward ≡ true → is_filling s.phase ≡ false → synchronizes s ≡ false → is_filling t.phase ≡ false
-again_phase s t step backward busy goes_on = ap is_filling (turned s.phase s t step.1 backward busy goes_on).1
-
 -- The flags stay.
 flags_after : (ph : Phase) (s t : CellState) → t ≡ after_round max no_degree ph s → s.flags.backward ≡ true → t.flags ≡ s.flags
 flags_after Filling s t step backward = ap (λ (c : CellState). c.flags) step
