@@ -12,6 +12,8 @@ mod BlockRows
 mod Chunks
 mod Degrees
 mod SizedRows
+mod Keeping
+mod TakenRows
 mod Starts
 mod SharesOf
 mod RankSets

@@ -1,5 +1,5 @@
 -- The ghosts of a rank are vertices of other ranks, each once.
-use Rattle.std.proofs.Common.{◌≡◌, ◌≢◌, ◌==◌, ◌&&◌, not, true, ℕ, ◌+◌, ◌-◌, ◌<◌, List, length, get_or, filter, All, AllPairs, Contains, zero, suc, ap, subst, refl, ◌∙◌, arith}
+use Rattle.std.proofs.Common.{◌≡◌, ◌≢◌, ◌==◌, ◌&&◌, not, true, ℕ, ◌+◌, ◌<◌, List, length, get_or, filter, All, AllPairs, Contains, zero, suc, ap, subst, refl, ◌∙◌, arith}
 use Rattle.std.proofs.lemmas.Bool.{eqb-true, and_parts, not-true, eqb-false}
 use Rattle.std.proofs.lemmas.List.Elements.{All-nil, All-push, All-weaker, All-map, All-contains}
 use Rattle.std.proofs.lemmas.List.Folds.{Any-from_list_any}

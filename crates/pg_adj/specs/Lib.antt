@@ -8,3 +8,4 @@ pub mod Blocks
 pub mod Mirrored
 pub mod ArcSlots
 pub mod RankSets
+pub mod Owning

@@ -9,6 +9,8 @@ mod filling;
 mod ghosts;
 mod holders;
 pub mod laws;
+mod own_filling;
+mod owning;
 mod parts;
 mod rank_sets;
 mod rows;
@@ -18,4 +20,4 @@ mod splitting;
 
 pub use arcs::{Arc, Ghost, Holder};
 pub use parts::Part;
-pub use splitting::split;
+pub use splitting::{split, split_on_threads};

@@ -11,6 +11,7 @@ use pg_dist::{Block, Distribution, Listed};
 use std::alloc::{AllocError, Global};
 use std::process::Abort;
 use std::test::Fail;
+use std::thread::Threads;
 
 #[test]
 fn a_path_is_divided_between_two_ranks(rt: HostRuntime) -> Result<(), Fail> {
@@ -111,8 +112,8 @@ fn first_and_last(alloc: Global, n: u32, ranks: Ranks) -> Result<Listed, Fail>
 }
 
 // Each part is what the filters give.
-fn agrees<D: Distribution>(
-    rt: &impl Abort,
+fn agrees<D: Distribution + Sync>(
+    rt: &(impl Abort + Threads + Sync),
     alloc: Global,
     graph: &EdgeList,
     dist: &D,
@@ -123,10 +124,14 @@ fn agrees<D: Distribution>(
         owners: &owners,
         edges: graph.edges(),
     };
-    let parts = split(alloc, graph, dist).map_err(|_| "no memory")?;
-    assert_eq!(rt; parts.len(), dist.ranks().count() as usize);
-    for (rank, part) in parts.iter().enumerate() {
-        agrees_at(rt, alloc, &plain, small(rank), part)?;
+    for threads in 1..6 {
+        let parts = pg_adj::split_on_threads(rt, alloc, threads, graph, dist).map_err(
+            |_| "no memory",
+        )?;
+        assert_eq!(rt; parts.len(), dist.ranks().count() as usize);
+        for (rank, part) in parts.iter().enumerate() {
+            agrees_at(rt, alloc, &plain, small(rank), part)?;
+        }
     }
     Ok(())
 }
