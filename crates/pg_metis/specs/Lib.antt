@@ -2,11 +2,13 @@ pub mod Ahead
 pub mod Answers
 pub mod Arcs
 pub mod Ascending
+pub mod Batches
 pub mod Content
 pub mod Examples
 pub mod Fault
 pub mod File
 pub mod FileLaws
+pub mod Gathering
 pub mod Headers
 pub mod LineFaults
 pub mod Lines
@@ -17,6 +19,8 @@ pub mod Parts
 pub mod PartsAnswers
 pub mod PartsLaws
 pub mod PartsReading
+pub mod Pieces
+pub mod Ranges
 pub mod Reading
 pub mod Refusals
 pub mod Rows

@@ -17,6 +17,7 @@ use crate::{GraphFault, Kind};
 use pg_base::EdgeList;
 use pg_outside::Inputs;
 use std::alloc::Global;
+use std::thread::Threads;
 
 /// Reads the bytes that are left of the name begun last as a graph file, and answers its graph. The
 /// contents are these bytes.
@@ -75,4 +76,25 @@ fn refusal(fault: PairFault, numbers: &[u64]) -> GraphFault
         },
         PairFault::OutOfMemory => GraphFault::OutOfMemory,
     }
+}
+
+/// The same as `read_graph`, by at most `threads` threads.
+pub fn read_graph_on_threads<R: Threads + Sync, I: Inputs>(
+    token: &R,
+    alloc: Global,
+    threads: u32,
+    inputs: &mut I,
+) -> Result<EdgeList, GraphFault>
+    requires threads { 1 ≤ threads }
+    requires begun { IsTrue (I.begun inputs.old) }
+    ensures ok { IfOk result (λ g. IfSome (I.left inputs.old) (λ text. FileOf text g)) }
+    ensures end { OnOk result (IfSome (I.left inputs.old) (λ _. I.left inputs.new ≡ Some [])) }
+    ensures refused { OnRefused result (λ fault. IfSome (I.left inputs.old) (λ text. fault_of text ≡ Some fault)) }
+    ensures malformed { IfSome (I.left inputs.old) (λ text. (fault : Fault) → fault_of text ≡ Some fault → IsRefusedAs result fault) }
+    ensures well_formed { IfSome (I.left inputs.old) (λ text. (g : Graph) → FileOf text g → IsNotRefused result) }
+    ensures failed { OnFailed result (Rose (I.faults inputs.old) (I.faults inputs.new)) }
+    ensures later { I.faults inputs.old ≤ I.faults inputs.new }
+    ensures files { I.files inputs.new ≡ I.files inputs.old }
+{
+    read_graph(alloc, inputs)
 }

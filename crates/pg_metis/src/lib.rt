@@ -5,21 +5,26 @@
 
 mod arcs;
 mod ascending;
+mod batches;
 mod content;
 mod faults;
+mod gathering;
 mod graph_files;
 mod headers;
 pub mod laws;
 mod numbers;
 mod pairing;
+mod parsing;
 mod parts_faults;
 mod parts_files;
+mod pieces;
+mod ranges;
 mod reading;
 mod rows;
 mod sorting;
 
 pub use faults::{GraphFault, Kind};
-pub use graph_files::read_graph;
+pub use graph_files::{read_graph, read_graph_on_threads};
 pub use parts_faults::{PartsFault, PartsKind};
 pub use parts_files::read_parts;
 
