@@ -1,9 +1,10 @@
 //! Reading a graph file, with the time that it took.
 use pg_base::EdgeList;
-use pg_metis::{GraphFault, read_graph};
+use pg_metis::{GraphFault, read_graph_on_threads};
 use pg_outside::{FileInputs, Inputs};
 use std::io;
 use std::io::ErrorKind;
+use std::num::NonZeroU32;
 use std::time::{Duration, Instant};
 
 /// A graph, and how long it took to be read.
@@ -15,20 +16,20 @@ pub struct Loaded {
     pub reading: Duration,
 }
 
-/// The graph of the file of this name, with the time that reading took.
-pub fn load_timed(rt: &HostRuntime, file: &str) -> io::Result<Loaded> {
+/// The graph of the file of this name, read by at most so many threads, with the time that reading took.
+pub fn load_timed(rt: &HostRuntime, threads: NonZeroU32, file: &str) -> io::Result<Loaded> {
     let start = Instant::now(rt)?;
-    let graph = load(rt, file)?;
+    let graph = load(rt, threads, file)?;
     let reading = start.elapsed(rt)?;
     Ok(Loaded { graph, reading })
 }
 
-/// The graph of the file of this name. `NotFound`: the file can't be opened. `InvalidData`: it is no graph file.
+/// The graph of the file of this name, read by at most so many threads. `NotFound`: the file can't be opened. `InvalidData`: it is no graph file.
 /// `Other`: a read failed. `OutOfMemory`: an allocation was refused.
-pub fn load(rt: &HostRuntime, file: &str) -> io::Result<EdgeList> {
+pub fn load(rt: &HostRuntime, threads: NonZeroU32, file: &str) -> io::Result<EdgeList> {
     let mut inputs = FileInputs::new(rt);
     inputs.begin(file).map_err(|_| ErrorKind::NotFound)?;
-    match read_graph(rt.alloc(), &mut inputs) {
+    match read_graph_on_threads(rt, rt.alloc(), threads.get(), &mut inputs) {
         Ok(graph) => Ok(graph),
         Err(GraphFault::Refused { .. }) => Err(ErrorKind::InvalidData.into()),
         Err(GraphFault::Failed) => Err(ErrorKind::Other.into()),

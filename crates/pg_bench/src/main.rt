@@ -55,6 +55,7 @@ use pg_run::run;
 use running::measure_run;
 use sites::{blocks, sites_of, synchronize};
 use std::io::ErrorKind;
+use std::num::NonZeroU32;
 use std::rt::Clock;
 use std::sync::Wait;
 use std::thread::Threads;
@@ -69,11 +70,11 @@ fn main(rt: HostRuntime) -> io::Result<()> {
         Some(Job::Divide(division)) => measure_division(&rt, division),
         Some(Job::Send(traffic)) => measure_traffic(&rt, traffic),
         Some(Job::Synchronize(map)) => {
-            let graph = load(&rt, map.file)?;
+            let graph = load(&rt, NonZeroU32::MIN, map.file)?;
             measure_map(&rt, &graph, map.ranks)
         }
         Some(Job::Run(job)) => {
-            let loaded = load_timed(&rt, job.file)?;
+            let loaded = load_timed(&rt, job.crew.threads, job.file)?;
             measure_run(&rt, loaded, job.algorithm, job.crew)
         }
         None => Err(io::Error::new(
@@ -94,7 +95,7 @@ fn words(rt: &HostRuntime) -> io::Result<Vec<String>> {
 
 // Reads, divides, and prints what came of it and how long it took.
 fn measure_division(rt: &HostRuntime, job: Division<'_>) -> io::Result<()> {
-    let Loaded { graph, reading } = load_timed(rt, job.file)?;
+    let Loaded { graph, reading } = load_timed(rt, NonZeroU32::MIN, job.file)?;
     match job.layout {
         Layout::Block => {
             let dist = Block::new(graph.n(), job.ranks);
@@ -150,12 +151,12 @@ fn measure_traffic<R: Threads + Wait + Sync + Clock + Print + Eprint + AllocGlob
 }
 
 // Fills and synchronizes a property map of so many ranks, and prints how many cells it has and how long it took.
-fn measure_map<R: Clock + Print + Eprint + AllocGlobal + Copy + Send>(
+fn measure_map<R: Threads + Sync + Clock + Print + Eprint + AllocGlobal + Copy + Send>(
     rt: &R,
     graph: &EdgeList,
     ranks: Ranks,
 ) -> io::Result<()> {
-    let Ok(parts) = blocks(rt.alloc(), graph, ranks) else {
+    let Ok(parts) = blocks(rt, rt.alloc(), NonZeroU32::MIN, graph, ranks) else {
         return Err(ErrorKind::OutOfMemory.into());
     };
     let Ok(mut sites) = sites_of::<RingLanes>(&(), rt.alloc(), &parts, ranks) else {

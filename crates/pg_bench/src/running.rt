@@ -115,7 +115,7 @@ fn run_over<
 {
     let Loaded { graph, reading } = loaded;
     let start = Instant::now(rt)?;
-    let Ok(parts) = blocks(rt.alloc(), &graph, crew.ranks) else {
+    let Ok(parts) = blocks(rt, rt.alloc(), crew.threads, &graph, crew.ranks) else {
         return Err(ErrorKind::OutOfMemory.into());
     };
     drop(graph);

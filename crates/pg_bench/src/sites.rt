@@ -9,13 +9,15 @@ ghost use Rattle.pg_adj.specs.Division.{Divided};
 ghost use Rattle.pg_bench.specs.Divisions.{HasEdgesBelow};
 ghost use Rattle.pg_bench.specs.Pairs.{EachPair};
 
-use pg_adj::{Part, split};
+use pg_adj::{Part, split_on_threads};
 use pg_base::{EdgeList, OutOfMemory, RankNo, Ranks};
 use pg_cells::{CellBody, Cells, Flags, LeastWins, Phase};
 use pg_dist::{Block, Distribution};
 use pg_group::{Envelope, Mailbox, Polled, Port, Worked, ports};
 use pg_lane::LaneKind;
 use std::alloc::Global;
+use std::num::NonZeroU32;
+use std::thread::Threads;
 
 // How many messages a lane holds.
 const CAPACITY: u32 = 1024;
@@ -177,19 +179,27 @@ fn end_each<M: Mailbox<CellBody>>(sites: &mut [Site<'_, M>]) -> Result<bool, Ast
     Ok(ended)
 }
 
-/// The parts of a graph in blocks, by rank.
-pub fn blocks(alloc: Global, graph: &EdgeList, ranks: Ranks) -> Result<Vec<Part>, OutOfMemory>
+/// The parts of a graph in blocks, by rank, made by at most so many threads.
+pub fn blocks<R: Threads + Sync>(
+    token: &R,
+    alloc: Global,
+    threads: NonZeroU32,
+    graph: &EdgeList,
+    ranks: Ranks,
+) -> Result<Vec<Part>, OutOfMemory>
     ensures count { IfOk result (λ parts. length parts.items ≡ ranks) }
     ensures rank { IfOk result (λ parts. Each (λ rank p. p.rank ≡ rank) parts.items) }
     ensures ranks { IfOk result (λ parts. Each (λ rank p. p.ranks ≡ ranks) parts.items) }
     ensures edges { IfOk result (λ parts. All (HasEdgesBelow (length graph.now.edges)) parts.items) }
 {
-    divided(alloc, graph, &Block::new(graph.n(), ranks))
+    divided(token, alloc, threads, graph, &Block::new(graph.n(), ranks))
 }
 
 // The parts of the graph as the distribution divides it. Each arc's edge is one of the graph's.
-fn divided<D: Distribution>(
+fn divided<R: Threads + Sync, D: Distribution + Sync>(
+    token: &R,
     alloc: Global,
+    threads: NonZeroU32,
     graph: &EdgeList,
     dist: &D,
 ) -> Result<Vec<Part>, OutOfMemory>
@@ -199,7 +209,7 @@ fn divided<D: Distribution>(
 {
     // For the facts that it ensures.
     let _n = graph.n();
-    let parts = split(alloc, graph, dist)?;
+    let parts = split_on_threads(token, alloc, threads.get(), graph, dist)?;
     Ok(parts)
 }
 

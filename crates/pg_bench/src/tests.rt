@@ -23,6 +23,7 @@ use pg_relax::Relax;
 use pg_run::{Turn, assemble, drive, run};
 use pg_triggers::Pair;
 use std::alloc::Global;
+use std::num::NonZeroU32;
 use std::test::Fail;
 
 type Rolls = Pair<Roll, Roll>;
@@ -104,7 +105,7 @@ fn a_pair_on_one_rank_ends_without_lanes(rt: HostRuntime) -> Result<(), Fail> {
 fn a_search_of_a_path_over_two_ranks_offers_once_to_each_ghost(
     rt: HostRuntime,
 ) -> Result<(), Fail> {
-    let parts = path_parts(rt.alloc())?;
+    let parts = path_parts(&rt)?;
     assert_eq!(rt; ghost_count(&parts), 2);
     let maker = Relaxations {
         label: Hops { source: 1 },
@@ -121,7 +122,7 @@ fn a_search_of_a_path_over_two_ranks_offers_once_to_each_ghost(
 fn least_weights_of_a_path_over_two_ranks_offer_once_to_each_ghost(
     rt: HostRuntime,
 ) -> Result<(), Fail> {
-    let parts = path_parts(rt.alloc())?;
+    let parts = path_parts(&rt)?;
     let maker = Relaxations {
         label: Weight { source: 1 },
         agendas: ByBucket { delta: 4 },
@@ -134,7 +135,7 @@ fn least_weights_of_a_path_over_two_ranks_offer_once_to_each_ghost(
 
 #[test]
 fn a_forest_of_a_path_over_two_ranks_has_its_edges(rt: HostRuntime) -> Result<(), Fail> {
-    let parts = path_parts(rt.alloc())?;
+    let parts = path_parts(&rt)?;
     let group = group_of::<Dense, _>(rt.alloc(), parts, &Forests { edges: 2 })?;
     let finished = run(&rt, group, 2, &OpenGate);
     assert_eq!(rt; edge_count(rt.alloc(), &finished.programs)?, 2);
@@ -143,7 +144,7 @@ fn a_forest_of_a_path_over_two_ranks_has_its_edges(rt: HostRuntime) -> Result<()
 
 #[test]
 fn a_colouring_of_a_path_over_two_ranks_has_two_colours(rt: HostRuntime) -> Result<(), Fail> {
-    let parts = path_parts(rt.alloc())?;
+    let parts = path_parts(&rt)?;
     let group = group_of::<Colouring, _>(rt.alloc(), parts, &Colourings)?;
     let finished = run(&rt, group, 2, &OpenGate);
     assert_eq!(rt; colour_count(&finished.programs), 2);
@@ -151,16 +152,16 @@ fn a_colouring_of_a_path_over_two_ranks_has_two_colours(rt: HostRuntime) -> Resu
 }
 
 // The parts of the path 1, 2, 3 beside a vertex of its own, in blocks of two ranks.
-fn path_parts(alloc: Global) -> Result<Vec<Part>, Fail>
+fn path_parts(rt: &HostRuntime) -> Result<Vec<Part>, Fail>
     ensures count { IfOk result (λ parts. length parts.items ≡ 2) }
     ensures order { IfOk result (λ parts. AreInOrder parts.items) }
     ensures edges { IfOk result (λ parts. All (HasEdgesBelow 2) parts.items) }
 {
     let first = Edge { u: 1, v: 2, w: 5 };
     let second = Edge { u: 2, v: 3, w: 2 };
-    let edges = vec![in alloc; first, second]?;
+    let edges = vec![in rt.alloc(); first, second]?;
     laws::graphs();
     let graph = EdgeList::new(4, edges);
     let ranks = Ranks::new(2).ok_or("no number of ranks")?;
-    Ok(blocks(alloc, &graph, ranks)?)
+    Ok(blocks(rt, rt.alloc(), NonZeroU32::MIN, &graph, ranks)?)
 }

@@ -14,7 +14,7 @@ ghost use Rattle.pg_top.specs.Work.{HasColours, IsColouredBy, SpellsColours};
 use crate::columns::Numbers;
 use crate::crews::Crew;
 use crate::inputs::Input;
-use pg_adj::{Part, split};
+use pg_adj::{Part, split_on_threads};
 use pg_base::{EdgeList, Gate, OutOfMemory, Vertex};
 use pg_colour::Colouring;
 use pg_dist::{Block, Distribution, Listed};
@@ -65,7 +65,7 @@ fn colour_parts<W: Threads + Wait + Sync, G: Gate>(
 }
 
 /// Divides the graph as `dist` says, and colours it over the ranks until all have ended. The graph is freed once it is divided.
-fn colour<W: Threads + Wait + Sync, D: Distribution, G: Gate>(
+fn colour<W: Threads + Wait + Sync, D: Distribution + Sync, G: Gate>(
     token: &W,
     alloc: Global,
     graph: EdgeList,
@@ -78,7 +78,7 @@ fn colour<W: Threads + Wait + Sync, D: Distribution, G: Gate>(
     ensures coloured { IfOk result (λ f. IsColouring (D.sharing dist.now) graph crew.now.capacity f.programs.items f.lanes.items) }
 {
     let _ranks = dist.ranks();
-    let parts = split(alloc, &graph, dist)?;
+    let parts = split_on_threads(token, alloc, crew.threads, &graph, dist)?;
     drop(graph);
     colour_parts(token, alloc, parts, crew, gate)
 }
@@ -117,7 +117,7 @@ fn colours_of<D: Distribution>(
 }
 
 /// Colours the graph over the ranks among which `dist` divides it.
-fn colour_over<W: Threads + Wait + Sync, D: Distribution, G: Gate>(
+fn colour_over<W: Threads + Wait + Sync, D: Distribution + Sync, G: Gate>(
     token: &W,
     alloc: Global,
     graph: EdgeList,

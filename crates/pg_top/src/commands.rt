@@ -66,7 +66,7 @@ fn find<W: Threads + Wait + Sync, I: Inputs, G: Gate>(
     ensures files { I.files inputs.new ≡ I.files inputs.old }
 {
     let crew = crew_of(plan);
-    let input = read_input(alloc, inputs, plan, crew.ranks)?;
+    let input = read_input(token, alloc, inputs, plan, &crew)?;
     match solve(token, alloc, input, plan, &crew, gate) {
         Ok(solved) => Ok(solved),
         Err(OutOfMemory) => Err(Fault::Memory),

@@ -18,7 +18,7 @@ use crate::columns::Tree;
 use crate::crews::Crew;
 use crate::inputs::Input;
 use crate::weights::heaviest;
-use pg_adj::{Part, split};
+use pg_adj::{Part, split_on_threads};
 use pg_base::{EdgeList, Gate, OutOfMemory};
 use pg_boruvka::Dense;
 use pg_dist::{Block, Distribution, Listed};
@@ -74,7 +74,7 @@ fn grow_parts<W: Threads + Wait + Sync, G: Gate>(
 }
 
 /// Divides the graph as `dist` says, and grows its forest over the ranks until all have ended.
-fn grow<W: Threads + Wait + Sync, D: Distribution, G: Gate>(
+fn grow<W: Threads + Wait + Sync, D: Distribution + Sync, G: Gate>(
     token: &W,
     alloc: Global,
     graph: &EdgeList,
@@ -88,7 +88,7 @@ fn grow<W: Threads + Wait + Sync, D: Distribution, G: Gate>(
 {
     let _ranks = dist.ranks();
     let edges = graph.edges().len() as u32;
-    let parts = split(alloc, graph, dist)?;
+    let parts = split_on_threads(token, alloc, crew.threads, graph, dist)?;
     grow_parts(token, alloc, parts, edges, crew, gate)
 }
 

@@ -8,13 +8,15 @@ ghost use Rattle.pg_top.specs.Files.{HasGraph, HasInput, HasList, HasOwners, IsR
 ghost use Rattle.pg_top.specs.Run.{InputFails, IsOutside, LoadFails, OwnersFail, PartsFail};
 ghost use Rattle.pg_top.specs.Text.{IsInside, IsSmallGrid};
 
+use crate::crews::Crew;
 use crate::{Algorithm, Plan};
 use pg_base::{EdgeList, OutOfMemory, Ranks};
 use pg_make::grid;
-use pg_metis::{read_graph, read_parts};
+use pg_metis::{read_graph_on_threads, read_parts};
 use pg_outside::Inputs;
 use pg_print::Fault;
 use std::alloc::Global;
+use std::thread::Threads;
 
 /// A plan's graph, and the owners of its vertices where the plan names a partition file.
 #[derive(Drop)]
@@ -24,8 +26,15 @@ pub(crate) struct Input {
     pub(crate) owners: Option<Vec<u32>>,
 }
 
-/// The graph of the file of this name.
-fn load_graph<I: Inputs>(alloc: Global, inputs: &mut I, name: &str) -> Result<EdgeList, Fault>
+/// The graph of the file of this name, read by at most `threads` threads.
+fn load_graph<W: Threads + Sync, I: Inputs>(
+    token: &W,
+    alloc: Global,
+    threads: u32,
+    inputs: &mut I,
+    name: &str,
+) -> Result<EdgeList, Fault>
+    requires threads { 1 ≤ threads }
     ensures loaded { IfOk result (λ g. HasGraph name.now (I.files inputs.old) (λ loaded. loaded ≡ g)) }
     ensures end { OnOk result (IsReadToEnd (I.files inputs.old) (I.left inputs.new)) }
     ensures fails { IfErr result (LoadFails name.now (I.files inputs.old) (I.faults inputs.old) (I.faults inputs.new)) }
@@ -35,7 +44,7 @@ fn load_graph<I: Inputs>(alloc: Global, inputs: &mut I, name: &str) -> Result<Ed
     if inputs.begin(name).is_err() {
         return Err(Fault::Read);
     }
-    Ok(read_graph(alloc, inputs)?)
+    Ok(read_graph_on_threads(token, alloc, threads, inputs)?)
 }
 
 /// The owners of `n` vertices that the partition file of this name lists.
@@ -114,27 +123,28 @@ fn make_grid(alloc: Global, plan: &Plan) -> Result<Input, Fault>
 }
 
 /// Reads the plan's graph and then its partition file, if it names one. The source is looked at last.
-fn read_files<I: Inputs>(
+fn read_files<W: Threads + Sync, I: Inputs>(
+    token: &W,
     alloc: Global,
     inputs: &mut I,
     plan: &Plan,
-    ranks: Ranks,
+    crew: &Crew,
 ) -> Result<Input, Fault>
     requires reads { ReadsFiles plan.now.algorithm }
-    requires ranks { ranks ≡ plan.now.ranks }
+    requires ranks { crew.now.ranks ≡ plan.now.ranks }
     ensures has { IfOk result (λ input. HasInput (meaning_of plan.now) (I.files inputs.old)
         (λ g owners. (g ≡ input.graph) × (owners ≡ option_map (λ o. o.items) input.owners))) }
     ensures inside { IfOk result (λ input. IsInside plan.now.algorithm plan.now.source input.graph.n) }
     ensures count { IfOk result (λ input. ForSome input.owners (λ owners. vec_len owners ≡ input.graph.n)) }
-    ensures below { IfOk result (λ input. ForSome input.owners (λ owners. All (λ owner. owner < ranks) owners.items)) }
+    ensures below { IfOk result (λ input. ForSome input.owners (λ owners. All (λ owner. owner < crew.now.ranks) owners.items)) }
     ensures end { OnOk result (IsReadToEnd (I.files inputs.old) (I.left inputs.new)) }
     ensures fails { IfErr result (InputFails (meaning_of plan.now) (I.files inputs.old) (I.faults inputs.old) (I.faults inputs.new)) }
     ensures later { I.faults inputs.old ≤ I.faults inputs.new }
     ensures files { I.files inputs.new ≡ I.files inputs.old }
 {
-    let graph = load_graph(alloc, inputs, plan.file.as_str())?;
+    let graph = load_graph(token, alloc, crew.threads, inputs, plan.file.as_str())?;
     let n = graph.n();
-    let owners = owners_of(alloc, inputs, plan, n, ranks)?;
+    let owners = owners_of(alloc, inputs, plan, n, crew.ranks)?;
     if is_outside(plan, n) {
         return Err(Fault::Source {
             source: plan.source,
@@ -145,19 +155,20 @@ fn read_files<I: Inputs>(
 
 /// What the plan's algorithm computes with: the grid of the plan, where nothing is read, or the plan's graph and then its
 /// partition file, if it names one. The source is looked at last.
-pub(crate) fn read_input<I: Inputs>(
+pub(crate) fn read_input<W: Threads + Sync, I: Inputs>(
+    token: &W,
     alloc: Global,
     inputs: &mut I,
     plan: &Plan,
-    ranks: Ranks,
+    crew: &Crew,
 ) -> Result<Input, Fault>
     requires built { IsBuilt (meaning_of plan.now) }
-    requires ranks { ranks ≡ plan.now.ranks }
+    requires ranks { crew.now.ranks ≡ plan.now.ranks }
     ensures has { IfOk result (λ input. HasInput (meaning_of plan.now) (I.files inputs.old)
         (λ g owners. (g ≡ input.graph) × (owners ≡ option_map (λ o. o.items) input.owners))) }
     ensures inside { IfOk result (λ input. IsInside plan.now.algorithm plan.now.source input.graph.n) }
     ensures count { IfOk result (λ input. ForSome input.owners (λ owners. vec_len owners ≡ input.graph.n)) }
-    ensures below { IfOk result (λ input. ForSome input.owners (λ owners. All (λ owner. owner < ranks) owners.items)) }
+    ensures below { IfOk result (λ input. ForSome input.owners (λ owners. All (λ owner. owner < crew.now.ranks) owners.items)) }
     ensures in_blocks { IfOk result (λ input. plan.now.algorithm ≡ Algorithm.Grid → input.owners ≡ None) }
     ensures small { IfOk result (λ input. plan.now.algorithm ≡ Algorithm.Grid → IsSmallGrid input.graph) }
     ensures end { OnOk result (ReadsFiles plan.now.algorithm → IsReadToEnd (I.files inputs.old) (I.left inputs.new)) }
@@ -168,6 +179,6 @@ pub(crate) fn read_input<I: Inputs>(
 {
     match plan.algorithm {
         Algorithm::Grid => make_grid(alloc, plan),
-        _ => read_files(alloc, inputs, plan, ranks),
+        _ => read_files(token, alloc, inputs, plan, crew),
     }
 }

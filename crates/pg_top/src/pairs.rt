@@ -13,7 +13,7 @@ use crate::agendas::ByLevel;
 use crate::columns::{Field, Numbers};
 use crate::crews::Crew;
 use crate::relaxing::{number, programs_of};
-use pg_adj::split;
+use pg_adj::split_on_threads;
 use pg_agenda::Levels;
 use pg_base::{EdgeList, Gate, OutOfMemory, Vertex};
 use pg_dist::{Block, Distribution};
@@ -43,16 +43,19 @@ pub(crate) struct Searched {
 }
 
 /// New relaxations by this label over the parts of the graph, one for each rank.
-fn relaxations<L: Label + Copy + Drop, D: Distribution>(
+fn relaxations<W: Threads + Sync, L: Label + Copy + Drop, D: Distribution + Sync>(
+    token: &W,
     alloc: Global,
+    threads: u32,
     graph: &EdgeList,
     dist: &D,
     label: L,
 ) -> Result<Vec<Relax<L, Levels>>, OutOfMemory>
+    requires threads { 1 ≤ threads }
     requires n { graph.now.n ≡ (D.sharing dist.now).n }
     ensures { IfOk result (λ programs. AreOpen label takes_all (D.sharing dist.now) graph.now programs.items) }
 {
-    let parts = split(alloc, graph, dist)?;
+    let parts = split_on_threads(token, alloc, threads, graph, dist)?;
     programs_of(alloc, parts, label, &ByLevel)
 }
 
@@ -87,12 +90,15 @@ fn pairs_of(
 }
 
 /// The pairs of new relaxations over the parts of the graph, by hops from the source and by roots, one pair for each rank.
-fn new_pairs<D: Distribution>(
+fn new_pairs<W: Threads + Sync, D: Distribution + Sync>(
+    token: &W,
     alloc: Global,
+    threads: u32,
     graph: &EdgeList,
     dist: &D,
     source: u32,
 ) -> Result<Vec<HopsAndRoots>, OutOfMemory>
+    requires threads { 1 ≤ threads }
     requires n { graph.now.n ≡ (D.sharing dist.now).n }
     ensures hops { IfOk result (λ pairs. AreOpen (record { source = source }) takes_all (D.sharing dist.now) graph.now (map hops_in pairs.items)) }
     ensures roots { IfOk result (λ pairs. AreOpen (record {}) takes_all (D.sharing dist.now) graph.now (map roots_in pairs.items)) }
@@ -101,13 +107,13 @@ fn new_pairs<D: Distribution>(
     ensures ranks { IfOk result (λ pairs. Each (λ rank p. ⟦<HopsAndRoots as Program>⟧.own p ≡ rank) pairs.items) }
     ensures sizes { IfOk result (λ pairs. Each (λ rank p. ⟦<HopsAndRoots as Program>⟧.size p ≡ length pairs.items) pairs.items) }
 {
-    let hops = relaxations(alloc, graph, dist, Hops { source })?;
-    let roots = relaxations(alloc, graph, dist, Root)?;
+    let hops = relaxations(token, alloc, threads, graph, dist, Hops { source })?;
+    let roots = relaxations(token, alloc, threads, graph, dist, Root)?;
     pairs_of(alloc, hops, roots)
 }
 
 /// Relaxes by hops and by roots over the ranks among which `dist` divides the graph, until all have ended.
-fn run_pairs<W: Threads + Wait + Sync, D: Distribution, G: Gate>(
+fn run_pairs<W: Threads + Wait + Sync, D: Distribution + Sync, G: Gate>(
     token: &W,
     alloc: Global,
     graph: &EdgeList,
@@ -124,7 +130,7 @@ fn run_pairs<W: Threads + Wait + Sync, D: Distribution, G: Gate>(
     members_have_whole_books::<Relax<Hops, Levels>, Relax<Root, Levels>>();
     relaxations_stop_once_all_votes_are_quiet::<Hops, Levels>();
     relaxations_stop_once_all_votes_are_quiet::<Root, Levels>();
-    let pairs = new_pairs(alloc, graph, dist, source)?;
+    let pairs = new_pairs(token, alloc, crew.threads, graph, dist, source)?;
     let group = assemble::<HopsAndRoots, RingLanes>(&(), alloc, pairs, crew.capacity)?;
     Ok(run(token, group, crew.threads, gate))
 }
@@ -174,7 +180,7 @@ fn roots_of<D: Distribution>(
 }
 
 /// Relaxes by hops and by roots over the ranks among which `dist` divides the graph, and collects both answers.
-fn search_over<W: Threads + Wait + Sync, D: Distribution, G: Gate>(
+fn search_over<W: Threads + Wait + Sync, D: Distribution + Sync, G: Gate>(
     token: &W,
     alloc: Global,
     graph: &EdgeList,

@@ -9,7 +9,7 @@ ghost use Rattle.pg_top.specs.Relaxed.{AreAnswers, AreInOrder, HavePlaces, IsRel
 use crate::agendas::Agendas;
 use crate::columns::{Field, Numbers};
 use crate::crews::Crew;
-use pg_adj::{Part, split};
+use pg_adj::{Part, split_on_threads};
 use pg_agenda::Agenda;
 use pg_base::{EdgeList, Gate, OutOfMemory, Vertex};
 use pg_dist::Distribution;
@@ -73,7 +73,7 @@ pub(crate) fn relax_parts<
 /// Divides the graph as `dist` says, and relaxes over its ranks until all have ended. The graph is freed once it is divided.
 pub(crate) fn relax<
     W: Threads + Wait + Sync,
-    D: Distribution,
+    D: Distribution + Sync,
     L: Label + Copy + Send + Drop,
     A: Agenda + Send + Drop,
     M: Agendas<A>,
@@ -94,7 +94,7 @@ pub(crate) fn relax<
 {
     // For the facts that it ensures.
     let _ranks = dist.ranks();
-    let parts = split(alloc, &graph, dist)?;
+    let parts = split_on_threads(token, alloc, crew.threads, &graph, dist)?;
     drop(graph);
     relax_parts(token, alloc, parts, label, agendas, crew, gate)
 }

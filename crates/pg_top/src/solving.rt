@@ -50,7 +50,7 @@ pub(crate) struct Relaxed<L: Label + Send, A: Agenda + Send> {
 /// Relaxes over the ranks among which `dist` divides the graph.
 fn relax_over<
     W: Threads + Wait + Sync,
-    D: Distribution,
+    D: Distribution + Sync,
     L: Label + Copy + Send + Drop,
     A: Agenda + Send + Drop,
     M: Agendas<A>,
