@@ -2,4 +2,22 @@
 #![tactic(auto)]
 
 #[cfg(test)]
-mod tests;
+mod colour_tests;
+#[cfg(test)]
+mod division_tests;
+#[cfg(test)]
+mod fault_tests;
+#[cfg(test)]
+mod forest_tests;
+#[cfg(test)]
+mod grid_tests;
+#[cfg(test)]
+mod name_tests;
+#[cfg(test)]
+mod running;
+#[cfg(test)]
+mod search_tests;
+#[cfg(test)]
+mod thread_tests;
+#[cfg(test)]
+mod word_tests;
