@@ -8,9 +8,25 @@ refuses the source; so its time is that of reading. The C++ programs read the sa
 reader, by an istream, and by a scan by hand; they take each line as it stands. The files have 1,048,576 vertices and
 8,388,608 edges by a seeded rule, without and with weights of edges. Of each program the least of the interleaved runs
 counts: seconds, megabytes of the file a second, peak memory. Boost.Graph is Debian's libboost-graph-dev.
+
+`pbgl` takes a line twice where its neighbours don't ascend; so it is told how many lines of each file do not.
 """
 import argparse, os, subprocess, sys, tempfile
 from run import HERE, TOP, compiled, measured
+
+
+def lines_read_twice(file):
+    """How many lines of vertices have neighbours that don't ascend, and how many there are."""
+    with open(file, "rb") as handle:
+        lines = (line.split() for line in handle if not line.startswith(b"%"))
+        header = next(lines)
+        sizes, weights, edge_weights = (header[2] if len(header) > 2 else b"0").rjust(3, b"0")
+        begin = (sizes == ord("1")) + (weights == ord("1")) * max(int(header[3]) if len(header) > 3 else 1, 1)
+        step, count, twice = 1 + (edge_weights == ord("1")), int(header[0]), 0
+        for _, words in zip(range(count), lines):
+            neighbours = [int(word) for word in words[begin::step]]
+            twice += any(later <= earlier for earlier, later in zip(neighbours, neighbours[1:]))
+    return twice, count
 
 
 def main():
@@ -30,6 +46,7 @@ def main():
             file = os.path.join(folder, kind + ".graph")
             with open(file, "wb") as handle:
                 subprocess.run([make, kind, str(given.vertices), str(given.edges), "1"], stdout=handle, check=True)
+            print("%-8s %d of %d lines are read twice" % ((kind,) + lines_read_twice(file)))
             programs = {way: ([read, way, file], 0) for way in ["boost", "stream", "scan"]}
             programs["pbgl"] = ([pbgl, "bfs", file, "--source", "0"], 8)
             size = os.path.getsize(file) / 1e6
