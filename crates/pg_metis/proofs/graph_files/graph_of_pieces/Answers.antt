@@ -15,7 +15,7 @@ pub edges_of_on_threads-requires-clause-named : goal.edges_of_on_threads-require
 edges_of_on_threads-requires-clause-named g c =
     let header = header_in c.args.file.header in
     let (lines, are) = c.requires.read in
-    as-named header lines _ are.faultless are.count (c.in-Some.ensures.some (named_arcs header.format 1 lines) are.arcs)
+    λ lifetimes lives. as-named header lines _ are.faultless are.count (c.in-Some.ensures.some (named_arcs header.format 1 lines) are.arcs)
 
 pub returns-in-Ok-clause-ok : goal.returns-in-Ok-clause-ok
 returns-in-Ok-clause-ok g c =
