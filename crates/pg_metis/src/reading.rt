@@ -43,7 +43,10 @@ pub(crate) struct FileLines {
 }
 
 /// Takes the header.
-pub(crate) fn read_header<I: Inputs>(reader: &mut LineReader, inputs: &mut I) -> Result<Header, GraphFault>
+pub(crate) fn read_header<I: Inputs>(
+    reader: &mut LineReader,
+    inputs: &mut I,
+) -> Result<Header, GraphFault>
     requires begun { IsTrue (I.begun inputs.old) }
     ensures later { I.faults inputs.old ≤ I.faults inputs.new }
     ensures begun { I.begun inputs.new ≡ I.begun inputs.old }

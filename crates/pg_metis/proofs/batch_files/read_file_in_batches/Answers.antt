@@ -59,7 +59,10 @@ returns-clause-ok g c =
 pub returns-clause-end : goal.returns-clause-end
 returns-clause-end g c =
     let reader = c.in_ok-reader.reader in
+    let after = c.read_header.new.reader in
     let left = g.I.Inputs.left c.args.inputs.now in
     let header = header_in c.in_ok-header.header in
+    let a = content_ahead reader left in
+    let b = content_ahead after (g.I.Inputs.left c.read_header.new.inputs) in
     of-text reader left (λ _. _) (c.in_ok-reader.ensures.coming left) c.in_ok-reader.ensures.lines
-    (told-if _ _ (TakesHeader header c.read_header.new.reader.lines) _ (λ _. _) c.in_ok-header.ensures.ok c.in_ok-rows.ensures.end (λ was now takes end. end))
+    (told-if a b (TakesHeader header after.lines) _ (λ _. _) c.in_ok-header.ensures.ok c.in_ok-rows.ensures.end (λ was now takes end. end))

@@ -1,6 +1,5 @@
-use Rattle.std.proofs.Common.{◌≡◌, ◌∙◌, ◌*◌, sym, ap, refl, length, List}
+use Rattle.std.proofs.Common.{◌≡◌, ◌∙◌, sym, ap, refl, length}
 use Rattle.std.proofs.lemmas.List.{length-map}
-use Rattle.pg_metis.specs.Content.{NumberedLine}
 use Rattle.pg_metis.specs.Fault.{named_arcs}
 use Rattle.pg_metis.specs.Headers.{header_in}
 use Rattle.pg_metis.specs.Pairing.{arc_of, arcs_named}
