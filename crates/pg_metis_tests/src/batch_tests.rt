@@ -36,12 +36,42 @@ const TEXTS: [&str; 20] = [
     "1 1 1 1 1",
 ];
 
-/// A text in place of a line: 0 is the header's place, v that of vertex v, and one more that of what follows them.
+/// How a line is changed.
 #[derive(Clone, Copy)]
-struct Change {
-    place: u32,
-    text: &'static str,
+enum Change {
+    /// This text stands in its place.
+    Text(&'static str),
+    /// It gives its edges other weights.
+    Weights,
+    /// It names other neighbours.
+    Names,
 }
+
+/// A change of the line at a place: 0 is the header's, v that of vertex v, and one more that of what follows them.
+#[derive(Clone, Copy)]
+struct ChangeAt {
+    place: u32,
+    change: Change,
+}
+
+/// A file for each kind of fault but `TooLong`. Source: docs/FORMAT.md, the faults of a graph file.
+const FAULTS: [&str; 15] = [
+    "%a\n%b\n",
+    "1\n\n",
+    "2 1\n2\nx\n",
+    "1048577 0\n",
+    "1 0 2\n\n",
+    "2 1 1\n2 5\n1\n",
+    "2 1\n3\n1\n",
+    "1 1\n1\n",
+    "2 1\n2 2\n1\n",
+    "2 1 1\n2 0\n1 0\n",
+    "3 1\n2\n1\n",
+    "2 1\n2\n1\n3\n",
+    "2 2\n2\n1\n",
+    "3 1\n2\n3\n\n",
+    "2 1 1\n2 5\n1 6\n",
+];
 
 /// Draws a number by the linear congruential generator of Knuth's MMIX (The Art of Computer Programming, volume 2,
 /// section 3.3.4).
@@ -71,21 +101,33 @@ fn random_edges(alloc: Global, n: u32, state: &mut u64) -> Result<Vec<Edge>, Fai
     Ok(edges)
 }
 
-fn random_change(n: u32, state: &mut u64) -> Change
+fn random_change(n: u32, state: &mut u64) -> ChangeAt
     requires { n < 100 }
 {
     let place = draw(state, n + 2);
-    let text = TEXTS[draw(state, 20) as usize];
-    Change { place, text }
+    let change = match draw(state, 4) {
+        0 => Change::Weights,
+        1 => Change::Names,
+        _ => Change::Text(TEXTS[draw(state, 20) as usize]),
+    };
+    ChangeAt { place, change }
 }
 
-fn line_of(alloc: Global, edges: &[Edge], vertex: u32) -> Result<String, Fail> {
+/// The neighbours of a vertex, with the weights of its edges. These bits are turned over in both.
+fn line_of(
+    alloc: Global,
+    edges: &[Edge],
+    vertex: u32,
+    in_names: u32,
+    in_weights: u32,
+) -> Result<String, Fail> {
     let mut line = String::new(alloc);
     for edge in edges {
+        let weight = edge.w ^ in_weights;
         if edge.u == vertex {
-            line.push_str(format!(in alloc; "{} {} ", edge.v, edge.w)?.as_str())?;
+            line.push_str(format!(in alloc; "{} {weight} ", edge.v ^ in_names)?.as_str())?;
         } else if edge.v == vertex {
-            line.push_str(format!(in alloc; "{} {} ", edge.u, edge.w)?.as_str())?;
+            line.push_str(format!(in alloc; "{} {weight} ", edge.u ^ in_names)?.as_str())?;
         }
     }
     Ok(line)
@@ -95,18 +137,22 @@ fn line_at(
     alloc: Global,
     n: u32,
     edges: &[Edge],
-    changes: &[Change],
+    changes: &[ChangeAt],
     place: u32,
 ) -> Result<String, Fail> {
-    for change in changes {
-        if change.place == place {
-            return Ok(String::from_str(alloc, change.text)?);
+    for at in changes {
+        if at.place == place {
+            return match at.change {
+                Change::Text(text) => Ok(String::from_str(alloc, text)?),
+                Change::Weights => line_of(alloc, edges, place, 0, 1),
+                Change::Names => line_of(alloc, edges, place, 1, 0),
+            };
         }
     }
     if place == 0 {
         return Ok(format!(in alloc; "{n} {} 1", edges.len())?);
     }
-    line_of(alloc, edges, place)
+    line_of(alloc, edges, place, 0, 0)
 }
 
 /// The file of a random graph of at most 11 vertices, in which `changes` lines are changed.
@@ -159,13 +205,7 @@ fn read_batches(
 {
     let mut inputs = MemoryInputs::new(files(alloc, file)?, piece, vec![in alloc; fails]?);
     inputs.begin("F")?;
-    Ok(read_graph_in_batches(
-        rt,
-        alloc,
-        threads,
-        room,
-        &mut inputs,
-    ))
+    Ok(read_graph_in_batches(rt, alloc, threads, room, &mut inputs))
 }
 
 fn assert_same(rt: &impl Abort, file: &str, answer: &Answer, expected: &Answer) {
@@ -204,6 +244,14 @@ fn batches_give_the_graph_or_the_first_fault(rt: HostRuntime) -> Result<(), Fail
     for round in 0..40u32 {
         let file = random_file(rt.alloc(), round % 3, &mut state)?;
         assert_one_answer(&rt, rt.alloc(), file.as_str(), 0)?;
+    }
+    Ok(())
+}
+
+#[test]
+fn batches_give_each_kind_of_fault(rt: HostRuntime) -> Result<(), Fail> {
+    for file in &FAULTS {
+        assert_one_answer(&rt, rt.alloc(), file, 0)?;
     }
     Ok(())
 }
