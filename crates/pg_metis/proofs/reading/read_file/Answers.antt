@@ -1,4 +1,3 @@
-use Rattle.std.proofs.Common.{◌≡◌, Some}
 use Rattle.std.proofs.lemmas.Result.{err_from_is_err_and}
 use Rattle.pg_metis.specs.Ahead.{content_ahead}
 use Rattle.pg_metis.specs.Headers.{header_in}
