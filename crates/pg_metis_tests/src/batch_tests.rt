@@ -101,6 +101,7 @@ fn random_edges(alloc: Global, n: u32, state: &mut u64) -> Result<Vec<Edge>, Fai
     Ok(edges)
 }
 
+/// A change of one of the lines of a file with `n` vertices.
 fn random_change(n: u32, state: &mut u64) -> ChangeAt
     requires { n < 100 }
 {
@@ -133,6 +134,7 @@ fn line_of(
     Ok(line)
 }
 
+/// The line at a place of the file, as the first change for it says.
 fn line_at(
     alloc: Global,
     n: u32,
@@ -171,6 +173,7 @@ fn random_file(alloc: Global, changes: u32, state: &mut u64) -> Result<String, F
     Ok(file)
 }
 
+/// One file, by the name F.
 fn files(alloc: Global, file: &str) -> Result<Vec<(String, Vec<u8>)>, Fail> {
     let mut files = Vec::new(alloc);
     files.push((
@@ -208,6 +211,7 @@ fn read_batches(
     Ok(read_graph_in_batches(rt, alloc, threads, room, &mut inputs))
 }
 
+/// Asserts that both answers are of one graph, or one fault.
 fn assert_same(rt: &impl Abort, file: &str, answer: &Answer, expected: &Answer) {
     match (answer, expected) {
         (Ok(answer), Ok(expected)) => {
