@@ -18,6 +18,7 @@ mod EdgeArcs
 mod LineParts
 mod ContentLemmas
 pub mod FileFromEdges
+pub mod FileLemmas
 mod EdgesFromArcs
 mod MirrorFaults
 mod GraphLines

@@ -18,7 +18,7 @@ use Rattle.pg_metis.specs.File.{Format, Header, line_arcs}
 use Rattle.pg_metis.specs.LineFaults.{IsLineFault}
 use Rattle.pg_metis.proofs.AheadContent.{same-content}
 use Rattle.pg_metis.proofs.ToldLemmas.{if_some-both, if_some-weaker, told-if, told-on, told-then}
-use Rattle.pg_metis.specs.Reading.{AreRowsOf, HasLines, ReadsBody, ReadsRows, TakesHeader, TakesRow, blank_fault, extra_lines_fault}
+use Rattle.pg_metis.specs.Reading.{AreRowsOf, HasLines, ReadsRows, TakesHeader, TakesRow, blank_fault, extra_lines_fault}
 
 fault-at : (line at : ℕ) (kind : Kind) → line ≡ at → Some (let f : Fault = record { line = line; kind = kind } in f) ≡ Some (record { line = at; kind = kind })
 fault-at line at kind same = ap (λ (x : ℕ). let f : Fault = record { line = x; kind = kind } in Some f) same
@@ -159,23 +159,21 @@ reads-more header v old new a b z below reads row = record {
 }
 
 -- What is wrong with the rest is what is wrong with the whole.
-pub rows-fault : (header : Header) (v : ℕ) (rows : Rows) (a b : Option Content) (fault : Option Fault) → ReadsRows header v rows a b → IfSome b (λ now. body_fault header (v + 1) now ≡ fault) → IfSome a (λ was. body_fault header 1 was ≡ fault)
-rows-fault header v rows a b fault reads rest =
-    let next : 1 + length reads.lines ≡ v + 1 = omega (arith, reads.are.count) in
-    told-if a b (Passes reads.lines) _ _ reads.told rest (λ was now passes is. body-on header 1 reads.lines was now passes reads.are.faultless ∙ ap (λ k. body_fault header k now) next ∙ is)
+pub rows-fault : (header : Header) (v : ℕ) (lines : List NumberedLine) (a b : Option Content) (fault : Option Fault) → length lines ≡ v → lines_fault header 1 lines ≡ None → Told a b (Passes lines) → IfSome b (λ now. body_fault header (v + 1) now ≡ fault) → IfSome a (λ was. body_fault header 1 was ≡ fault)
+rows-fault header v lines a b fault count faultless told rest =
+    let next : 1 + length lines ≡ v + 1 = omega (arith, count) in
+    told-if a b (Passes lines) _ _ told rest (λ was now passes is. body-on header 1 lines was now passes faultless ∙ ap (λ k. body_fault header k now) next ∙ is)
 
-pub blank-fault : (header : Header) (rows : Rows) (a b : Option Content) (fault : Option Fault) → ReadsRows header header.n rows a b → IfSome b (λ now. blank_fault now ≡ fault) → IfSome a (λ was. body_fault header 1 was ≡ fault)
-blank-fault header rows a b fault reads rest =
-    rows-fault header header.n rows a b fault reads (if_some-weaker b _ _ rest (λ now is. body-blank header (header.n + 1) now (omega arith) ∙ is))
+pub blank-fault : (header : Header) (lines : List NumberedLine) (a b : Option Content) (fault : Option Fault) → length lines ≡ header.n → lines_fault header 1 lines ≡ None → Told a b (Passes lines) → IfSome b (λ now. blank_fault now ≡ fault) → IfSome a (λ was. body_fault header 1 was ≡ fault)
+blank-fault header lines a b fault count faultless told rest =
+    rows-fault header header.n lines a b fault count faultless told (if_some-weaker b _ _ rest (λ now is. body-blank header (header.n + 1) now (omega arith) ∙ is))
 
-pub reads-body : (header : Header) (rows : Rows) (a b : Option Content) → ReadsRows header header.n rows a b → IfSome b (λ now. blank_fault now ≡ None) → ReadsBody header rows a
-reads-body header rows a b reads rest = record {
-  lines = reads.lines;
-  are = reads.are;
-  told = if_some-both a _ _ _ (blank-fault header rows a b None reads rest)
-      (told-then a b (Passes reads.lines) (λ was. take header.n was.lines ≡ reads.lines) reads.told (λ was now passes. ap (take header.n) passes.lines ∙ ap (λ k. take k (reads.lines ++ now.lines)) (sym reads.are.count) ∙ take-append_seam reads.lines now.lines))
-      (λ was fine vertices. (fine, vertices));
-}
+-- All lines were taken, and none has a fault.
+pub body-told : (header : Header) (lines : List NumberedLine) (a b : Option Content) → length lines ≡ header.n → lines_fault header 1 lines ≡ None → Told a b (Passes lines) → IfSome b (λ now. blank_fault now ≡ None) → IfSome a (λ was. (body_fault header 1 was ≡ None) × (take header.n was.lines ≡ lines))
+body-told header lines a b count faultless told rest =
+    if_some-both a _ _ _ (blank-fault header lines a b None count faultless told rest)
+    (told-then a b (Passes lines) (λ was. take header.n was.lines ≡ lines) told (λ was now passes. ap (take header.n) passes.lines ∙ ap (λ k. take k (lines ++ now.lines)) (sym count) ∙ take-append_seam lines now.lines))
+    (λ was fine vertices. (fine, vertices))
 
 headed : (header : Header) (at : ℕ) (was now : Content) → (takes : TakesHeader header at was now) → content_fault was ≡ option_or (body_fault header 1 now) (pairs_fault header takes.line.number (take header.n now.lines))
 unfolding content_fault

@@ -19,6 +19,7 @@ pub mod Parts
 pub mod PartsAnswers
 pub mod PartsLaws
 pub mod PartsReading
+pub mod PieceReading
 pub mod Pieces
 pub mod Ranges
 pub mod Reading

@@ -5,6 +5,7 @@
 
 mod arcs;
 mod ascending;
+mod batch_files;
 mod batches;
 mod content;
 mod faults;
@@ -24,7 +25,7 @@ mod rows;
 mod sorting;
 
 pub use faults::{GraphFault, Kind};
-pub use graph_files::{read_graph, read_graph_on_threads};
+pub use graph_files::{read_graph, read_graph_in_batches, read_graph_on_threads};
 pub use parts_faults::{PartsFault, PartsKind};
 pub use parts_files::read_parts;
 

@@ -43,7 +43,10 @@ pub(crate) struct FileLines {
 }
 
 /// Takes the header.
-fn read_header<I: Inputs>(reader: &mut LineReader, inputs: &mut I) -> Result<Header, GraphFault>
+pub(crate) fn read_header<I: Inputs>(
+    reader: &mut LineReader,
+    inputs: &mut I,
+) -> Result<Header, GraphFault>
     requires begun { IsTrue (I.begun inputs.old) }
     ensures later { I.faults inputs.old ≤ I.faults inputs.new }
     ensures begun { I.begun inputs.new ≡ I.begun inputs.old }
@@ -183,7 +186,7 @@ fn read_rows<I: Inputs>(
 }
 
 /// Takes what follows the lines of the vertices, which has no word.
-fn read_end<I: Inputs>(reader: &mut LineReader, inputs: &mut I) -> Result<(), GraphFault>
+pub(crate) fn read_end<I: Inputs>(reader: &mut LineReader, inputs: &mut I) -> Result<(), GraphFault>
     requires begun { IsTrue (I.begun inputs.old) }
     ensures later { I.faults inputs.old ≤ I.faults inputs.new }
     ensures begun { I.begun inputs.new ≡ I.begun inputs.old }
