@@ -39,6 +39,8 @@ pub mod Settled
 pub mod PairedEdges
 pub mod AscendingEdges
 mod PartLines
+pub mod ParsedLines
+pub mod ParsedPieces
 pub mod PartsLemmas
 pub mod PartsReadingLemmas
 pub mod PartsRefusals
