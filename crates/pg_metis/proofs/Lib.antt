@@ -1,3 +1,4 @@
+pub mod AddedPieces
 pub mod AheadContent
 pub mod GraphLemmas
 pub mod HeaderLemmas

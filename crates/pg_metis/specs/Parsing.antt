@@ -1,6 +1,9 @@
 -- What was found in pieces of lines that were looked at side by side.
 use Rattle.std.specs.Prelude.{◌≡◌, ℕ, ◌+◌, ⊤, Result, Ok, Err, Some, None, Vec, List, [], ◌∷◌, ◌++◌, length}
 use Rattle.std.specs.declared.alloc.Global.{Global}
+use Rattle.pg_metis.specs.declared.faults.GraphFault.{GraphFault}
+use Rattle.pg_metis.specs.declared.faults.GraphFault.TheVariants.{Refused}
+use Rattle.pg_metis.specs.declared.faults.GraphFault.TheVariants as graph
 use Rattle.pg_metis.specs.declared.pairing.NamedArc.{NamedArc}
 use Rattle.pg_metis.specs.declared.parsing.PieceFault.{PieceFault}
 use Rattle.pg_metis.specs.declared.parsing.PieceFault.TheVariants.{Line, OutOfMemory}
@@ -27,3 +30,8 @@ pub record IsDealt (here : List NumberedLine → Type 0) (later : ℕ → List N
 abbrev pub AreParsed : Header → List (Result (Vec NamedArc Global) PieceFault) → ℕ → List NumberedLine → Type 0
 AreParsed header [] v lines = lines ≡ []
 AreParsed header (result ∷ results) v lines = IsDealt (λ first. IsParsed header v first result) (AreParsed header results) v lines
+
+-- What a piece's fault is to the reader of a graph.
+abbrev pub from_piece : PieceFault → GraphFault
+from_piece (Line fault) = Refused fault.line fault.kind
+from_piece OutOfMemory = graph.OutOfMemory

@@ -9,7 +9,7 @@ ghost use Rattle.pg_metis.specs.File.{line_arcs};
 ghost use Rattle.pg_text.specs.Text.{words};
 ghost use Rattle.pg_metis.specs.declared.parsing.PieceFault.TheVariants.{Line, OutOfMemory};
 ghost use Rattle.pg_metis.specs.Headers.{header_in};
-ghost use Rattle.pg_metis.specs.Parsing.{AreParsed, IsParsed};
+ghost use Rattle.pg_metis.specs.Parsing.{AreParsed, IsParsed, from_piece};
 ghost use Rattle.pg_metis.specs.Pieces.{AddsPiece};
 
 use crate::GraphFault;
@@ -37,6 +37,17 @@ impl From<LineFault> for PieceFault {
 
     fn from(fault: LineFault) -> PieceFault {
         PieceFault::Line(fault)
+    }
+}
+
+impl From<PieceFault> for GraphFault {
+    ghost from_gives = { λ fault gives. gives ≡ from_piece fault };
+
+    fn from(fault: PieceFault) -> GraphFault {
+        match fault {
+            PieceFault::Line(fault) => fault.into(),
+            PieceFault::OutOfMemory => GraphFault::OutOfMemory,
+        }
     }
 }
 
@@ -68,7 +79,11 @@ pub(crate) fn parse_batch<R: Threads + Sync>(
     ensures refused { OnRefused result (λ fault. lines_fault (header_in header) first (lines_in batch.now) ≡ Some fault) }
     ensures failed { OnFailed result ⊥ }
 {
-    Err(GraphFault::OutOfMemory)
+    let found = parse_pieces(token, alloc, threads, header, first, &batch.bytes, &batch.lines)?;
+    for piece in found {
+        pieces.add(piece?)?;
+    }
+    Ok(())
 }
 
 /// Takes the words of all lines, the first of which is that of the vertex `first`, in pieces of them, by at most `threads`
