@@ -1,17 +1,20 @@
 -- What was found in pieces of lines, taken piece by piece up to the first fault.
 use Rattle.std.proofs.Common.{◌≡◌, ℕ, ◌+◌, Option, Some, None, Result, Ok, Err, Vec, Global, List, [], ◌∷◌, ◌++◌, length, refl, sym, ap, ◌∙◌, subst, arith, append-nil, append_assoc, length-append}
 use Rattle.std.specs.Option.{option_or}
+use Rattle.std.specs.Result.{IsErrAnd}
 use Rattle.pg_base.specs.Graph.{Arc}
+use Rattle.pg_metis.specs.declared.faults.GraphFault.{GraphFault}
 use Rattle.pg_metis.specs.declared.faults.LineFault.{LineFault}
 use Rattle.pg_metis.specs.declared.pairing.NamedArc.{NamedArc}
 use Rattle.pg_metis.specs.declared.parsing.PieceFault.{PieceFault}
 use Rattle.pg_metis.specs.declared.parsing.PieceFault.TheVariants.{Line, OutOfMemory}
 use Rattle.pg_metis.specs.declared.pieces.Pieces.{Pieces}
+use Rattle.pg_metis.specs.Answers.{OnRefused}
 use Rattle.pg_metis.specs.Content.{NumberedLine}
 use Rattle.pg_metis.specs.Fault.{Fault, lines_fault, named_arcs}
 use Rattle.pg_metis.specs.File.{Header}
 use Rattle.pg_metis.specs.Pairing.{arcs_named}
-use Rattle.pg_metis.specs.Parsing.{AreParsed, IsDealt, IsParsed}
+use Rattle.pg_metis.specs.Parsing.{AreParsed, IsDealt, IsParsed, from_piece}
 use Rattle.pg_metis.specs.Pieces.{AddsPiece, KeepsPieces}
 use Rattle.pg_metis.proofs.ReadingLemmas.{arcs-split, lines-split}
 
@@ -80,3 +83,9 @@ fault-found header v lines old new fault left has =
     let ys = dealt.first in
     let later : lines_fault header (v + length xs) (ys ++ dealt.rest) ≡ Some (record { line = fault.line; kind = fault.kind }) = lines-split header (v + length xs) ys dealt.rest ∙ rw (dealt.found) refl in
     ap (lines_fault header v) (has.split ∙ ap (λ l. xs ++ l) dealt.split) ∙ lines-split header v xs (ys ++ dealt.rest) ∙ rw (has.faultless) later
+
+pub piece-refused : {A : Type 0} (result : Result A GraphFault) (header : Header) (v : ℕ) (lines : List NumberedLine) (old new : Pieces) (fault : PieceFault) (left : List (Result (Vec NamedArc Global) PieceFault))
+    → IsErrAnd result (λ gives. gives ≡ from_piece fault) → HasAdded header v lines old new (Err fault ∷ left) → OnRefused result (λ told. lines_fault header v lines ≡ Some told)
+piece-refused (Ok x) header v lines old new fault left is has = absurd is
+piece-refused (Err gives) header v lines old new (Line fault) left is has = rw is (fault-found header v lines old new fault left has)
+piece-refused (Err gives) header v lines old new OutOfMemory left is has = rw is tt

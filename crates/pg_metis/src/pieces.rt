@@ -24,6 +24,7 @@ pub(crate) struct Pieces {
 impl Pieces {
     ghost use Rattle.std.specs.Prelude.{◌≢◌, [], List, None, IfSome, OnOk};
     ghost use Rattle.pg_base.specs.Graph.{Arc};
+    ghost use Rattle.pg_metis.specs.Answers.{OnFailed, OnRefused};
     ghost use Rattle.pg_metis.specs.Pieces.{AddsPiece, KeepsPieces, arcs_in};
 
     /// No arc yet, and room for no list yet.
@@ -41,7 +42,9 @@ impl Pieces {
 
     /// Takes the arcs of the next piece. Lets go of all arcs once they are more than there may be.
     pub fn add(&mut self, arcs: Vec<NamedArc>) -> Result<(), GraphFault>
-        ensures { OnOk result (AddsPiece self.old (arcs_named arcs.items) self.new) }
+        ensures adds { OnOk result (AddsPiece self.old (arcs_named arcs.items) self.new) }
+        ensures refused { OnRefused result (λ _. ⊥) }
+        ensures failed { OnFailed result ⊥ }
     {
         if self.more || arcs.len() > self.most - self.count {
             self.lists.clear();
