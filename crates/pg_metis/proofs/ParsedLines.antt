@@ -31,9 +31,6 @@ row-within : (header : Header) (v : ℕ) (ws : List (List ℕ)) → v ≤ header
 row-within header v ws last = let is : nat_le v header.n ≡ true = grind (arith, nat_tests) in rw is refl
 
 module _ (header : Header) (v : ℕ) (bytes : List ℕ) (xs : List LineAt) (k : ℕ) (d : LineAt) (below : k < length xs) where
-
-
-
   so-far : length (map (line_of bytes) (take k xs)) ≡ k
   so-far = length-map (take k xs) (line_of bytes) ∙ length-take-le k xs (omega arith)
 

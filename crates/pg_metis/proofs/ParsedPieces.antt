@@ -76,5 +76,5 @@ pub pieces-found : {E : Type 0} (header : Header) (bytes : List ℕ) (size v : �
     → IfOk result (λ found. AreParsed header found.items v (map (line_of bytes) xs))
 pieces-found header bytes size v xs result some count each =
     both-found result _ _ _ (λ found count each.
-        let bounds = ceiling (length xs) size (length found.items) some (sym found.ok.0 ∙ count) in
-        all-parsed header bytes size some found.items v xs bounds.0 bounds.1 each) count each
+    let bounds = ceiling (length xs) size (length found.items) some (sym found.ok.0 ∙ count) in
+    all-parsed header bytes size some found.items v xs bounds.0 bounds.1 each) count each

@@ -79,7 +79,15 @@ pub(crate) fn parse_batch<R: Threads + Sync>(
     ensures refused { OnRefused result (λ fault. lines_fault (header_in header) first (lines_in batch.now) ≡ Some fault) }
     ensures failed { OnFailed result ⊥ }
 {
-    let found = parse_pieces(token, alloc, threads, header, first, &batch.bytes, &batch.lines)?;
+    let found = parse_pieces(
+        token,
+        alloc,
+        threads,
+        header,
+        first,
+        &batch.bytes,
+        &batch.lines,
+    )?;
     for piece in found {
         pieces.add(piece?)?;
     }
@@ -127,6 +135,7 @@ fn parse_lines(
     let mut stamps = vec![in alloc; 0; header.n as usize]?;
     let mut arcs = NamedArcs::new(alloc, most_words(lines))?;
     take_rows(header, first, bytes, lines, &mut stamps, &mut arcs)?;
+    // There is room for all arcs, so they are kept.
     arcs.into_kept().ok_or(PieceFault::OutOfMemory)
 }
 
@@ -135,7 +144,10 @@ fn most_words(lines: &[LineAt]) -> usize {
     let (Some(head), Some(last)) = (lines.first(), lines.last()) else {
         return 0;
     };
-    last.end.saturating_sub(head.begin).saturating_add(lines.len()) / 2
+    last.end
+        .saturating_sub(head.begin)
+        .saturating_add(lines.len())
+        / 2
 }
 
 /// Takes the words of the lines, the first of which is that of the vertex `first`. In `stamps` stands, for each vertex, the

@@ -14,5 +14,5 @@ returns g c =
     let size = c.max-size.result in
     pieces-found header bytes size c.args.first c.args.lines.now c.map_chunks.result (omega (arith, c.max-size.ensures)) c.map_chunks.ensures.len
     (IfOk-weaker c.map_chunks.result _ _ (λ found gives k d below.
-        let at = (gives k d below).1 in
-        subst (λ (lines : List LineAt). IsParsed header (c.args.first + k * size) (map (line_of bytes) lines) (get_or found.items k d)) at.argument_is.value at.call) c.map_chunks.ensures.each)
+    let at = (gives k d below).1 in
+    subst (λ (lines : List LineAt). IsParsed header (c.args.first + k * size) (map (line_of bytes) lines) (get_or found.items k d)) at.argument_is.value at.call) c.map_chunks.ensures.each)
