@@ -1,6 +1,5 @@
 -- What was found in pieces of lines, taken piece by piece up to the first fault.
-use Rattle.std.proofs.Common.{◌≡◌, ℕ, ◌+◌, Option, Some, None, Result, Ok, Err, Vec, Global, List, [], ◌∷◌, ◌++◌, length, refl, sym, ap, ◌∙◌, subst, arith, append-nil, append_assoc, length-append}
-use Rattle.std.specs.Option.{option_or}
+use Rattle.std.proofs.Common.{◌≡◌, ℕ, ◌+◌, Some, None, Result, Ok, Err, Vec, Global, List, [], ◌∷◌, ◌++◌, length, refl, sym, ap, ◌∙◌, subst, arith, append-nil, append_assoc, length-append}
 use Rattle.std.specs.Result.{IsErrAnd}
 use Rattle.pg_base.specs.Graph.{Arc}
 use Rattle.pg_metis.specs.declared.faults.GraphFault.{GraphFault}
@@ -11,10 +10,10 @@ use Rattle.pg_metis.specs.declared.parsing.PieceFault.TheVariants.{Line, OutOfMe
 use Rattle.pg_metis.specs.declared.pieces.Pieces.{Pieces}
 use Rattle.pg_metis.specs.Answers.{OnRefused}
 use Rattle.pg_metis.specs.Content.{NumberedLine}
-use Rattle.pg_metis.specs.Fault.{Fault, lines_fault, named_arcs}
+use Rattle.pg_metis.specs.Fault.{lines_fault, named_arcs}
 use Rattle.pg_metis.specs.File.{Header}
 use Rattle.pg_metis.specs.Pairing.{arcs_named}
-use Rattle.pg_metis.specs.Parsing.{AreParsed, IsDealt, IsParsed, from_piece}
+use Rattle.pg_metis.specs.Parsing.{AreParsed, from_piece}
 use Rattle.pg_metis.specs.Pieces.{AddsPiece, KeepsPieces}
 use Rattle.pg_metis.proofs.ReadingLemmas.{arcs-split, lines-split}
 

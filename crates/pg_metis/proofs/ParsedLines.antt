@@ -1,6 +1,5 @@
 -- Lines that stand in a list of bytes, one after another: what those so far tell, and the next one.
-use Rattle.std.proofs.Common.{◌≡◌, ℕ, ◌+◌, ◌<◌, ◌≤◌, true, nat_le, Option, Some, None, List, [], ◌∷◌, ◌++◌, length, map, take, drop, get_or, refl, sym, ap, ◌∙◌, subst, arith, append-nil, append_assoc}
-use Rattle.std.specs.Option.{option_or}
+use Rattle.std.proofs.Common.{◌≡◌, ℕ, ◌+◌, ◌<◌, ◌≤◌, true, nat_le, Some, None, List, [], ◌∷◌, ◌++◌, length, map, take, drop, get_or, refl, sym, ap, ◌∙◌, subst, arith, append-nil, append_assoc}
 use Rattle.std.proofs.lemmas.Bool.Decides.{nat_tests}
 use Rattle.std.proofs.lemmas.List.{drop_more, length-map, length-take-le, map-append, take-append-drop, take_more}
 use Rattle.pg_base.specs.Graph.{Arc}
@@ -10,9 +9,8 @@ use Rattle.pg_metis.specs.declared.faults.Kind.{Kind}
 use Rattle.pg_metis.specs.declared.gathering.LineAt.{LineAt}
 use Rattle.pg_metis.specs.Arcs.{Adds, Keeps}
 use Rattle.pg_metis.specs.Batches.{line_of}
-use Rattle.pg_metis.specs.Content.{NumberedLine}
-use Rattle.pg_metis.specs.Fault.{Fault, arcs_or_none, at_line, line_fault, lines_fault, named_arcs, vertex_fault}
-use Rattle.pg_metis.specs.File.{Format, Header, line_arcs}
+use Rattle.pg_metis.specs.Fault.{arcs_or_none, line_fault, lines_fault, named_arcs, vertex_fault}
+use Rattle.pg_metis.specs.File.{Header, line_arcs}
 use Rattle.pg_metis.proofs.ReadingLemmas.{arcs-split, lines-split}
 
 pub adds-on : (a b z : NamedArcs) (xs ys : List Arc) → Adds a xs b → Adds b ys z → Adds a (xs ++ ys) z

@@ -1,5 +1,5 @@
 -- Pieces of lines that were looked at side by side: together they are all lines.
-use Rattle.std.proofs.Common.{◌≡◌, ℕ, zero, suc, ◌+◌, ◌*◌, ◌/◌, ◌%◌, ◌<◌, ◌≤◌, min, Result, Ok, Err, IfOk, Vec, vec_len, Global, List, [], ◌∷◌, ◌++◌, length, map, take, drop, get_or, refl, sym, ap, ◌∙◌, subst, arith}
+use Rattle.std.proofs.Common.{◌≡◌, ℕ, zero, suc, ◌+◌, ◌*◌, ◌/◌, ◌%◌, ◌<◌, ◌≤◌, min, Result, Ok, Err, IfOk, Vec, vec_len, Global, List, [], ◌∷◌, length, map, take, drop, get_or, refl, sym, ap, ◌∙◌, subst, arith}
 use Rattle.std.specs.Fork.{slice_chunk}
 use Rattle.std.proofs.lemmas.List.{drop-drop, length-drop, length-map, length-take-le, map-append, take-append-drop}
 use Rattle.std.proofs.lemmas.Nat.{div-add-mod', mod_below}
@@ -8,9 +8,8 @@ use Rattle.pg_metis.specs.declared.gathering.LineAt.{LineAt}
 use Rattle.pg_metis.specs.declared.pairing.NamedArc.{NamedArc}
 use Rattle.pg_metis.specs.declared.parsing.PieceFault.{PieceFault}
 use Rattle.pg_metis.specs.Batches.{line_of}
-use Rattle.pg_metis.specs.Content.{NumberedLine}
 use Rattle.pg_metis.specs.File.{Header}
-use Rattle.pg_metis.specs.Parsing.{AreParsed, IsDealt, IsParsed}
+use Rattle.pg_metis.specs.Parsing.{AreParsed, IsParsed}
 
 ceiled : (n size parts left chunks : ℕ) → parts * size + left ≡ n → left < size → chunks ≡ parts + min 1 left → (n ≤ chunks * size) × (chunks * size < n + size)
 ceiled n size parts zero chunks whole below count = rw (count) (omega (arith, whole, below), omega (arith, whole, below))

@@ -1,4 +1,4 @@
-use Rattle.std.proofs.Common.{◌≡◌, ◌∙◌, ◌∷◌, ap, subst}
+use Rattle.std.proofs.Common.{◌∙◌, ◌∷◌, ap, subst}
 use Rattle.std.specs.Vec.Iter.{into_iter_items}
 use Rattle.pg_metis.specs.Batches.{lines_in}
 use Rattle.pg_metis.specs.Headers.{header_in}

@@ -1,4 +1,4 @@
-use Rattle.std.proofs.Common.{◌≡◌, ◌+◌, ◌*◌, ℕ, map, get_or, subst, arith, Result, Vec, Global, List}
+use Rattle.std.proofs.Common.{◌+◌, ◌*◌, map, get_or, subst, arith, List}
 use Rattle.std.proofs.lemmas.Result.{IfOk-weaker}
 use Rattle.pg_metis.specs.declared.gathering.LineAt.{LineAt}
 use Rattle.pg_metis.specs.Batches.{line_of}
