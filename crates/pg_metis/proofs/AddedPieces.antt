@@ -1,5 +1,5 @@
 -- What was found in pieces of lines, taken piece by piece up to the first fault.
-use Rattle.std.proofs.Common.{◌≡◌, ℕ, ◌+◌, Some, None, Result, Ok, Err, Vec, Global, List, [], ◌∷◌, ◌++◌, length, refl, sym, ap, ◌∙◌, subst, arith, append-nil, append_assoc, length-append}
+use Rattle.std.proofs.Common.{◌≡◌, ℕ, ◌+◌, Some, None, Result, Ok, Err, Vec, Global, List, ◌∷◌, ◌++◌, length, refl, sym, ap, ◌∙◌, subst, arith, append_assoc, length-append}
 use Rattle.std.specs.Result.{IsErrAnd}
 use Rattle.pg_base.specs.Graph.{Arc}
 use Rattle.pg_metis.specs.declared.faults.GraphFault.{GraphFault}
@@ -26,34 +26,11 @@ pub record HasAdded (header : Header) (v : ℕ) (lines : List NumberedLine) (old
   pub adds : AddsPiece old (named_arcs header.format v before) new
   pub parsed : AreParsed header left (v + length before) after
 
-adds-none : (a : Pieces) → AddsPiece a [] a
-adds-none a = record {
-  most = refl;
-  keeps = λ all keeps. subst (KeepsPieces a) (sym (append-nil all)) keeps;
-}
-
 adds-on : (a b z : Pieces) (xs ys : List Arc) → AddsPiece a xs b → AddsPiece b ys z → AddsPiece a (xs ++ ys) z
 adds-on a b z xs ys first second = record {
   most = second.most ∙ first.most;
   keeps = λ all keeps. subst (KeepsPieces z) (append_assoc all xs ys) (second.keeps (all ++ xs) (first.keeps all keeps));
 }
-
-pub none-added : (header : Header) (v : ℕ) (lines : List NumberedLine) (pieces : Pieces) (found : List (Result (Vec NamedArc Global) PieceFault)) → AreParsed header found v lines → HasAdded header v lines pieces pieces found
-none-added header v lines pieces found parsed = record {
-  before = [];
-  after = lines;
-  split = refl;
-  faultless = refl;
-  adds = adds-none pieces;
-  parsed = subst (λ n. AreParsed header found n lines) {x = v} {y = v + 0} (omega arith) parsed;
-}
-
-pub all-faultless : (header : Header) (v : ℕ) (lines : List NumberedLine) (old new : Pieces) → HasAdded header v lines old new [] → lines_fault header v lines ≡ None
-all-faultless header v lines old new has = ap (lines_fault header v) (has.split ∙ ap (λ l. has.before ++ l) has.parsed ∙ append-nil has.before) ∙ has.faultless
-
-pub all-added : (header : Header) (v : ℕ) (lines : List NumberedLine) (old new : Pieces) → HasAdded header v lines old new [] → AddsPiece old (named_arcs header.format v lines) new
-all-added header v lines old new has =
-    subst (λ (ls : List NumberedLine). AddsPiece old (named_arcs header.format v ls) new) (sym (has.split ∙ ap (λ l. has.before ++ l) has.parsed ∙ append-nil has.before)) has.adds
 
 -- One more piece without a fault.
 pub one-added : (header : Header) (v : ℕ) (lines : List NumberedLine) (old mid new : Pieces) (arcs : Vec NamedArc Global) (left : List (Result (Vec NamedArc Global) PieceFault))

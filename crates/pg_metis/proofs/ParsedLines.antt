@@ -19,12 +19,6 @@ adds-on a b z xs ys first second = record {
   keeps = λ all keeps. subst (Keeps z) (append_assoc all xs ys) (second.keeps (all ++ xs) (first.keeps all keeps));
 }
 
-adds-none : (a : NamedArcs) → Adds a [] a
-adds-none a = record {
-  most = refl;
-  keeps = λ all keeps. subst (Keeps a) (sym (append-nil all)) keeps;
-}
-
 row-within : (header : Header) (v : ℕ) (ws : List (List ℕ)) → v ≤ header.n → line_fault header v ws ≡ vertex_fault header v ws
 row-within header v ws last = let is : nat_le v header.n ≡ true = grind (arith, nat_tests) in rw is refl
 
