@@ -1,5 +1,5 @@
 -- Lines that stand in a list of bytes, one after another: what those so far tell, and the next one.
-use Rattle.std.proofs.Common.{◌≡◌, ℕ, ◌+◌, ◌<◌, ◌≤◌, true, nat_le, Some, None, List, [], ◌∷◌, ◌++◌, length, map, take, drop, get_or, refl, sym, ap, ◌∙◌, subst, arith, append-nil, append_assoc}
+use Rattle.std.proofs.Common.{◌≡◌, ℕ, ◌+◌, ◌<◌, ◌≤◌, true, nat_le, Some, None, List, [], ◌∷◌, ◌++◌, length, map, take, drop, get_or, refl, sym, ap, ◌∙◌, subst, arith, append-nil}
 use Rattle.std.proofs.lemmas.Bool.Decides.{nat_tests}
 use Rattle.std.proofs.lemmas.List.{drop_more, length-map, length-take-le, map-append, take-append-drop, take_more}
 use Rattle.pg_base.specs.Graph.{Arc}
@@ -7,17 +7,12 @@ use Rattle.pg_text.specs.Text.{words}
 use Rattle.pg_metis.specs.declared.arcs.NamedArcs.{NamedArcs}
 use Rattle.pg_metis.specs.declared.faults.Kind.{Kind}
 use Rattle.pg_metis.specs.declared.gathering.LineAt.{LineAt}
-use Rattle.pg_metis.specs.Arcs.{Adds, Keeps}
+use Rattle.pg_metis.specs.Arcs.{Adds}
 use Rattle.pg_metis.specs.Batches.{line_of}
 use Rattle.pg_metis.specs.Fault.{arcs_or_none, line_fault, lines_fault, named_arcs, vertex_fault}
 use Rattle.pg_metis.specs.File.{Header, line_arcs}
+use Rattle.pg_metis.proofs.NeighbourLemmas.{adds-more}
 use Rattle.pg_metis.proofs.ReadingLemmas.{arcs-split, lines-split}
-
-pub adds-on : (a b z : NamedArcs) (xs ys : List Arc) → Adds a xs b → Adds b ys z → Adds a (xs ++ ys) z
-adds-on a b z xs ys first second = record {
-  most = second.most ∙ first.most;
-  keeps = λ all keeps. subst (Keeps z) (append_assoc all xs ys) (second.keeps (all ++ xs) (first.keeps all keeps));
-}
 
 row-within : (header : Header) (v : ℕ) (ws : List (List ℕ)) → v ≤ header.n → line_fault header v ws ≡ vertex_fault header v ws
 row-within header v ws last = let is : nat_le v header.n ≡ true = grind (arith, nat_tests) in rw is refl
@@ -55,4 +50,4 @@ module _ (header : Header) (v : ℕ) (bytes : List ℕ) (xs : List LineAt) (k : 
       ap (named_arcs header.format v) one-more ∙ arcs-split header.format v (map (line_of bytes) (take k xs)) (line ∷ [])
       ∙ ap (λ n. named_arcs header.format v (map (line_of bytes) (take k xs)) ++ named_arcs header.format (v + n) (line ∷ [])) so-far
       ∙ ap (λ l. named_arcs header.format v (map (line_of bytes) (take k xs)) ++ l) (append-nil (arcs_or_none (line_arcs header.format (v + k) line.bytes))) in
-      subst (λ (l : List Arc). Adds old l new) (sym named) (adds-on old mid new (named_arcs header.format v (map (line_of bytes) (take k xs))) (arcs_or_none (line_arcs header.format (v + k) line.bytes)) first second)
+      subst (λ (l : List Arc). Adds old l new) (sym named) (adds-more old mid new (named_arcs header.format v (map (line_of bytes) (take k xs))) (arcs_or_none (line_arcs header.format (v + k) line.bytes)) first second)
