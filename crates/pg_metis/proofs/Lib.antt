@@ -1,3 +1,4 @@
+pub mod AddedPieces
 pub mod AheadContent
 pub mod GraphLemmas
 pub mod HeaderLemmas
@@ -40,6 +41,8 @@ pub mod Settled
 pub mod PairedEdges
 pub mod AscendingEdges
 mod PartLines
+pub mod ParsedLines
+pub mod ParsedPieces
 pub mod PartsLemmas
 pub mod PartsReadingLemmas
 pub mod PartsRefusals

@@ -15,6 +15,7 @@ pub mod Lines
 pub mod Marks
 pub mod Mirrors
 pub mod Pairing
+pub mod Parsing
 pub mod Parts
 pub mod PartsAnswers
 pub mod PartsLaws

@@ -86,4 +86,14 @@ impl NamedArcs {
         }
         Some(self.kept)
     }
+
+    /// All arcs, where there are no more than there may be.
+    pub fn into_kept(self) -> Option<Vec<NamedArc>>
+        ensures { IfSome result (λ arcs. (all : List Arc) → Keeps self all → arcs_named arcs.items ≡ all) }
+    {
+        if self.more {
+            return None;
+        }
+        Some(self.kept)
+    }
 }

@@ -1,5 +1,8 @@
 //! The arcs that the lines of a graph file name, kept in several lists.
 
+ghost use Rattle.std.specs.Prelude.{◌≡◌, ◌≤◌, flat_map, length};
+ghost use Rattle.pg_metis.specs.Pairing.{arcs_named};
+
 use crate::GraphFault;
 use crate::pairing::NamedArc;
 use std::alloc::Global;
@@ -12,14 +15,16 @@ pub(crate) struct Pieces {
     pub count: usize,
     /// How many there may be.
     pub most: usize,
-    /// Whether there are more.
+    /// Whether there are more. Then none is kept.
     pub more: bool,
+    ghost counted: { length (flat_map (λ list. arcs_named list.items) lists.items) ≡ count },
+    ghost within: { count ≤ most },
 }
 
 impl Pieces {
-    ghost use Rattle.std.specs.Prelude.{◌≡◌, ◌≢◌, [], List, None, IfSome, OnOk, length};
+    ghost use Rattle.std.specs.Prelude.{◌≢◌, [], List, None, IfSome, OnOk};
     ghost use Rattle.pg_base.specs.Graph.{Arc};
-    ghost use Rattle.pg_metis.specs.Pairing.{arcs_named};
+    ghost use Rattle.pg_metis.specs.Answers.{OnFailed, OnRefused};
     ghost use Rattle.pg_metis.specs.Pieces.{AddsPiece, KeepsPieces, arcs_in};
 
     /// No arc yet, and room for no list yet.
@@ -35,11 +40,21 @@ impl Pieces {
         }
     }
 
-    /// Takes the arcs of the next piece.
+    /// Takes the arcs of the next piece. Lets go of all arcs once they are more than there may be.
     pub fn add(&mut self, arcs: Vec<NamedArc>) -> Result<(), GraphFault>
-        ensures { OnOk result (AddsPiece self.old (arcs_named arcs.items) self.new) }
+        ensures adds { OnOk result (AddsPiece self.old (arcs_named arcs.items) self.new) }
+        ensures refused { OnRefused result (λ _. ⊥) }
+        ensures failed { OnFailed result ⊥ }
     {
+        if self.more || arcs.len() > self.most - self.count {
+            self.lists.clear();
+            self.count = 0;
+            self.more = true;
+            return Ok(());
+        }
+        let count = self.count + arcs.len();
         self.lists.push(arcs)?;
+        self.count = count;
         Ok(())
     }
 
