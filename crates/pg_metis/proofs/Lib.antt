@@ -40,6 +40,8 @@ pub mod Matching
 pub mod Settled
 pub mod PairedEdges
 pub mod AscendingEdges
+pub mod RangesMore
+pub mod Cutting
 mod PartLines
 pub mod ParsedLines
 pub mod ParsedPieces
