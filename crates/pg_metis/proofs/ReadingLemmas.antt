@@ -20,7 +20,7 @@ use Rattle.pg_metis.proofs.AheadContent.{same-content}
 use Rattle.pg_metis.proofs.ToldLemmas.{if_some-both, if_some-weaker, told-if, told-on, told-then}
 use Rattle.pg_metis.specs.Reading.{AreRowsOf, HasLines, ReadsBody, ReadsRows, TakesHeader, TakesRow, blank_fault, extra_lines_fault}
 
-fault-at : (line at : ℕ) (kind : Kind) → line ≡ at → Some (let f : Fault = record { line = line; kind = kind } in f) ≡ Some (record { line = at; kind = kind })
+pub fault-at : (line at : ℕ) (kind : Kind) → line ≡ at → Some (let f : Fault = record { line = line; kind = kind } in f) ≡ Some (record { line = at; kind = kind })
 fault-at line at kind same = ap (λ (x : ℕ). let f : Fault = record { line = x; kind = kind } in Some f) same
 
 -- An overlong line is the fault wherever it is met.
@@ -68,13 +68,13 @@ or-assoc None b c = refl
 or-assoc (Some fault) b c = refl
 
 -- Lines of vertices one after another.
-lines-split : (header : Header) (v : ℕ) (xs ys : List NumberedLine) → lines_fault header v (xs ++ ys) ≡ option_or (lines_fault header v xs) (lines_fault header (v + length xs) ys)
+pub lines-split : (header : Header) (v : ℕ) (xs ys : List NumberedLine) → lines_fault header v (xs ++ ys) ≡ option_or (lines_fault header v xs) (lines_fault header (v + length xs) ys)
 lines-split header v [] ys = ap (λ k. lines_fault header k ys) {x = v} {y = v + 0} (omega arith)
 lines-split header v (x ∷ xs) ys =
     let later : lines_fault header (v + 1 + length xs) ys ≡ lines_fault header (v + suc (length xs)) ys = ap (λ k. lines_fault header k ys) {x = v + 1 + length xs} {y = v + suc (length xs)} (omega arith) in
     rw (lines-split header (v + 1) xs ys, later) (or-assoc (at_line x.number (line_fault header v (words x.bytes))) (lines_fault header (v + 1) xs) (lines_fault header (v + suc (length xs)) ys))
 
-arcs-split : (format : Format) (v : ℕ) (xs ys : List NumberedLine) → named_arcs format v (xs ++ ys) ≡ named_arcs format v xs ++ named_arcs format (v + length xs) ys
+pub arcs-split : (format : Format) (v : ℕ) (xs ys : List NumberedLine) → named_arcs format v (xs ++ ys) ≡ named_arcs format v xs ++ named_arcs format (v + length xs) ys
 arcs-split format v [] ys = ap (λ k. named_arcs format k ys) {x = v} {y = v + 0} (omega arith)
 arcs-split format v (x ∷ xs) ys =
     let later : named_arcs format (v + 1 + length xs) ys ≡ named_arcs format (v + suc (length xs)) ys = ap (λ k. named_arcs format k ys) {x = v + 1 + length xs} {y = v + suc (length xs)} (omega arith) in
