@@ -10,6 +10,8 @@ pub mod ReadingLemmas
 pub mod RefusalLemmas
 pub mod RowLemmas
 pub mod ToldLemmas
+pub mod GatherLemmas
+pub mod BatchLemmas
 mod ListLemmas
 mod SameMembers
 mod HeaderFaults

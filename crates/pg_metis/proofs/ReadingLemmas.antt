@@ -20,7 +20,7 @@ use Rattle.pg_metis.proofs.AheadContent.{same-content}
 use Rattle.pg_metis.proofs.ToldLemmas.{if_some-both, if_some-weaker, told-if, told-on, told-then}
 use Rattle.pg_metis.specs.Reading.{AreRowsOf, HasLines, ReadsRows, TakesHeader, TakesRow, blank_fault, extra_lines_fault}
 
-fault-at : (line at : ℕ) (kind : Kind) → line ≡ at → Some (let f : Fault = record { line = line; kind = kind } in f) ≡ Some (record { line = at; kind = kind })
+pub fault-at : (line at : ℕ) (kind : Kind) → line ≡ at → Some (let f : Fault = record { line = line; kind = kind } in f) ≡ Some (record { line = at; kind = kind })
 fault-at line at kind same = ap (λ (x : ℕ). let f : Fault = record { line = x; kind = kind } in Some f) same
 
 -- An overlong line is the fault wherever it is met.

@@ -1,6 +1,11 @@
 -- Lines that were taken together, side by side in one list of bytes.
-use Rattle.std.specs.Prelude.{◌≡◌, ◌≢◌, ◌≤◌, ◌+◌, ℕ, true, false, ⊤, Option, List, [], ◌++◌, map, slice_range, IfSome}
+use Rattle.std.specs.Prelude.{◌≡◌, ◌≢◌, ◌≤◌, ◌<◌, ◌+◌, ℕ, true, false, ⊤, Option, None, Result, Ok, Err, List, [], length, ◌++◌, map, slice_range, IfSome}
 use Rattle.pg_text.specs.Coming.{Told}
+use Rattle.pg_metis.specs.declared.faults.GraphFault.{GraphFault}
+use Rattle.pg_metis.specs.declared.faults.GraphFault.TheVariants.{Refused}
+use Rattle.pg_metis.specs.declared.faults.Kind.TheVariants.{MissingLines}
+use Rattle.pg_metis.specs.Answers.{from_text}
+use Rattle.pg_metis.specs.Fault.{lines_fault, named_arcs}
 use Rattle.pg_text.specs.declared.faults.TextFault.TheVariants.{TooLong}
 use Rattle.pg_metis.specs.declared.batches.PieceRows.{PieceRows}
 use Rattle.pg_metis.specs.declared.gathering.Batch.{Batch}
@@ -10,7 +15,7 @@ use Rattle.pg_metis.specs.declared.gathering.Stop.TheVariants.{Full, End, Fault}
 use Rattle.pg_metis.specs.Ahead.{Passes}
 use Rattle.pg_metis.specs.Content.{Content, NumberedLine}
 use Rattle.pg_metis.specs.File.{Header}
-use Rattle.pg_metis.specs.Pieces.{ArePieceRowsOf}
+use Rattle.pg_metis.specs.Pieces.{AddsPiece, ArePieceRowsOf}
 
 -- The line that stands at these places of the bytes.
 abbrev pub line_of : List ℕ → LineAt → NumberedLine
@@ -41,4 +46,24 @@ StopsAt (Fault _) number lines before after = ⊤
 pub record ReadsPieceRows (header : Header) (v : ℕ) (rows : PieceRows) (before after : Option Content) : Type 0 where
   pub lines : List NumberedLine
   pub are : ArePieceRowsOf header v rows lines
+  pub told : Told before after (Passes lines)
+
+-- What a stop means where more lines of vertices are wanted, after so many lines with comments.
+abbrev pub stopped : Stop → ℕ → Result ⊤ GraphFault
+stopped Full count = Ok tt
+stopped End count = Err (Refused (count + 1) MissingLines)
+stopped (Fault fault) count = Err (from_text fault)
+
+-- These lines follow those that were taken before, and what they say was added.
+pub record TakesLines (header : Header) (old new : PieceRows) (lines : List NumberedLine) : Type 0 where
+  pub faultless : lines_fault header (length old.numbers.items + 1) lines ≡ None
+  pub arcs : AddsPiece old.pieces (named_arcs header.format (length old.numbers.items + 1) lines) new.pieces
+  pub numbers : new.numbers.items ≡ old.numbers.items ++ map (λ line. line.number) lines
+
+-- The lines of a batch were the first ahead.
+pub record TakesBatch (header : Header) (old new : PieceRows) (before after : Option Content) : Type 0 where
+  pub lines : List NumberedLine
+  pub some : lines ≢ []
+  pub few : length old.numbers.items + length lines ≤ header.n
+  pub takes : TakesLines header old new lines
   pub told : Told before after (Passes lines)
