@@ -1,4 +1,4 @@
-use Rattle.std.proofs.Common.{◌≡◌, ◌∙◌, ◌+◌, ◌++◌, ap, arith, length, map}
+use Rattle.std.proofs.Common.{◌≡◌, ◌∙◌, ◌++◌, ap, arith, length, map}
 use Rattle.pg_metis.specs.declared.gathering.LineAt.{LineAt}
 use Rattle.pg_metis.specs.Headers.{header_in}
 use Rattle.pg_metis.proofs.BatchLemmas.{takes-lines}
