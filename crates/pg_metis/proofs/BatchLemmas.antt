@@ -94,12 +94,12 @@ rows-fault header v rows a b fault reads rest =
     told-if a b (Passes reads.lines) _ _ reads.told rest (λ was now passes is. body-on header 1 reads.lines was now passes reads.are.faultless ∙ ap (λ k. body_fault header k now) next ∙ is)
 
 -- The lines follow those whose numbers are known.
-pub takes-lines : (header : Header) (old new : PieceRows) (bytes : List ℕ) (ats : List LineAt) (first : ℕ) → first ≡ length old.numbers.items + 1 → lines_fault header first (map (line_of bytes) ats) ≡ None → AddsPiece old.pieces (named_arcs header.format first (map (line_of bytes) ats)) new.pieces → new.numbers.items ≡ old.numbers.items ++ map (λ (at : LineAt). at.number) ats
+pub takes-lines : (header : Header) (old new : PieceRows) (bytes : List ℕ) (ats lines : List LineAt) (first : ℕ) → first ≡ length old.numbers.items + 1 → lines_fault header first (map (line_of bytes) ats) ≡ None → AddsPiece old.pieces (named_arcs header.format first (map (line_of bytes) ats)) new.pieces → new.numbers.items ≡ old.numbers.items ++ map (λ (at : LineAt). at.number) lines → lines ≡ ats
     → TakesLines header old new (map (line_of bytes) ats)
-takes-lines header old new bytes ats first is fine arcs numbers = record {
+takes-lines header old new bytes ats lines first is fine arcs numbers same = record {
   faultless = subst (λ k. lines_fault header k (map (line_of bytes) ats) ≡ None) is fine;
   arcs = subst (λ k. AddsPiece old.pieces (named_arcs header.format k (map (line_of bytes) ats)) new.pieces) is arcs;
-  numbers = numbers ∙ ap (λ l. old.numbers.items ++ l) (sym (numbers-of bytes ats));
+  numbers = numbers ∙ ap (λ l. old.numbers.items ++ map (λ (at : LineAt). at.number) l) same ∙ ap (λ l. old.numbers.items ++ l) (sym (numbers-of bytes ats));
 }
 
 pub fewer-lines : (bytes : List ℕ) (ats : List LineAt) (known n most : ℕ) → known < n → most ≡ n - known → length ats < most → length (map (line_of bytes) ats) + (known + 1) < n + 1
