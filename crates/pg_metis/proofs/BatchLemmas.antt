@@ -1,24 +1,19 @@
 -- From batch to batch: what is wrong with the content ahead, and what the lines of a batch tell.
-use Rattle.std.proofs.Common.{◌≡◌, ◌≢◌, ◌≤◌, ◌<◌, ℕ, ◌+◌, ◌-◌, Bool, true, false, nat_lt, Option, Some, None, Result, Ok, Err, List, [], ◌∷◌, ◌++◌, length, map, IfSome, refl, sym, ap, ◌∙◌, subst, arith, append_assoc, length-append}
-use Rattle.std.specs.Option.{option_or}
+use Rattle.std.proofs.Common.{◌≡◌, ◌≢◌, ◌≤◌, ◌<◌, ℕ, ◌+◌, ◌-◌, true, false, nat_lt, Option, Some, None, List, [], ◌∷◌, ◌++◌, length, map, IfSome, refl, sym, ap, ◌∙◌, subst, arith, length-append}
 use Rattle.std.proofs.lemmas.Bool.Decides.{nat_tests}
 use Rattle.std.proofs.lemmas.List.{length-map, map-append}
-use Rattle.pg_text.specs.Coming.{Told}
-use Rattle.pg_text.specs.declared.faults.TextFault.{TextFault}
 use Rattle.pg_text.specs.declared.faults.TextFault.TheVariants as text
 use Rattle.pg_metis.specs.declared.batches.PieceRows.{PieceRows}
-use Rattle.pg_metis.specs.declared.faults.GraphFault.{GraphFault}
 use Rattle.pg_metis.specs.declared.faults.Kind.TheVariants.{MissingLines, TooLong}
 use Rattle.pg_metis.specs.declared.gathering.LineAt.{LineAt}
 use Rattle.pg_metis.specs.declared.gathering.Stop.{Stop}
 use Rattle.pg_metis.specs.declared.gathering.Stop.TheVariants.{Full, End, Fault as StopFault}
 use Rattle.pg_metis.specs.Ahead.{Passes}
-use Rattle.pg_metis.specs.Answers.{OnFailed, OnRefused}
+use Rattle.pg_metis.specs.Answers.{OnRefused}
 use Rattle.pg_metis.specs.Batches.{Begins, ReadsPieceRows, StopsAt, TakesBatch, TakesLines, line_of, stopped}
 use Rattle.pg_metis.specs.Content.{Content, NumberedLine}
-use Rattle.pg_metis.specs.Fault.{Fault, body_fault, end_fault, lines_fault, named_arcs}
+use Rattle.pg_metis.specs.Fault.{Fault, body_fault, lines_fault, named_arcs}
 use Rattle.pg_metis.specs.File.{Header}
-use Rattle.pg_metis.specs.Gathering.{OnFailedStop}
 use Rattle.pg_metis.specs.Pieces.{AddsPiece, ArePieceRowsOf, KeepsPieces}
 use Rattle.pg_metis.proofs.ReadingLemmas.{arcs-split, body-on, fault-at, lines-split, passes-on}
 use Rattle.pg_metis.proofs.ToldLemmas.{if_some-weaker, told-if, told-on}
@@ -53,20 +48,9 @@ stop-refused header v number (StopFault text.Failed) lines a b few fine stops = 
 stop-refused header v number (StopFault (text.TooLong line)) lines a b few fine stops = if_some-weaker a _ _ stops (λ was is. body-long header v line lines was fine is.0 is.1 is.2)
 stop-refused header v number (StopFault text.OutOfMemory) lines a b few fine stops = tt
 
-pub stop-failed : (number : ℕ) (stop : Stop) (P : Type 0) → OnFailedStop stop P → OnFailed (stopped stop number) P
-stop-failed number Full P h = tt
-stop-failed number End P h = tt
-stop-failed number (StopFault text.Failed) P h = h
-stop-failed number (StopFault (text.TooLong line)) P h = tt
-stop-failed number (StopFault text.OutOfMemory) P h = tt
-
-pub numbers-of : (bytes : List ℕ) (ats : List LineAt) → map (λ (line : NumberedLine). line.number) (map (line_of bytes) ats) ≡ map (λ (at : LineAt). at.number) ats
+numbers-of : (bytes : List ℕ) (ats : List LineAt) → map (λ (line : NumberedLine). line.number) (map (line_of bytes) ats) ≡ map (λ (at : LineAt). at.number) ats
 numbers-of bytes [] = refl
 numbers-of bytes (at ∷ ats) = ap (λ l. at.number ∷ l) (numbers-of bytes ats)
-
-pub told-self : (a : Option Content) → Told a a (Passes [])
-told-self None = tt
-told-self (Some c) = record { lines = refl; count = refl; overlong = refl }
 
 -- The lines of a batch more.
 rows-more : (header : Header) (old new : PieceRows) (lines more : List NumberedLine) → ArePieceRowsOf header (length old.numbers.items) old lines → TakesLines header old new more → ArePieceRowsOf header (length new.numbers.items) new (lines ++ more)
@@ -103,14 +87,6 @@ known-more header old new b z batch =
     let more = some-length batch.lines batch.some in
     (omega arith, omega arith)
 
--- Nothing was taken yet.
-pub reads-none : (header : Header) (rows : PieceRows) (a : Option Content) → ArePieceRowsOf header 0 rows [] → ReadsPieceRows header (length rows.numbers.items) rows a a
-reads-none header rows a are = record {
-  lines = [];
-  are = subst (λ k. ArePieceRowsOf header k rows []) (sym (ap length are.numbers)) are;
-  told = told-self a;
-}
-
 -- What is wrong with the rest is what is wrong with the whole.
 pub rows-fault : (header : Header) (v : ℕ) (rows : PieceRows) (a b : Option Content) (fault : Option Fault) → ReadsPieceRows header v rows a b → IfSome b (λ now. body_fault header (v + 1) now ≡ fault) → IfSome a (λ was. body_fault header 1 was ≡ fault)
 rows-fault header v rows a b fault reads rest =
@@ -118,12 +94,12 @@ rows-fault header v rows a b fault reads rest =
     told-if a b (Passes reads.lines) _ _ reads.told rest (λ was now passes is. body-on header 1 reads.lines was now passes reads.are.faultless ∙ ap (λ k. body_fault header k now) next ∙ is)
 
 -- The lines follow those whose numbers are known.
-pub takes-lines : (header : Header) (old new : PieceRows) (bytes : List ℕ) (ats : List LineAt) (first : ℕ) → first ≡ length old.numbers.items + 1 → lines_fault header first (map (line_of bytes) ats) ≡ None → AddsPiece old.pieces (named_arcs header.format first (map (line_of bytes) ats)) new.pieces → new.numbers.items ≡ old.numbers.items ++ map (λ (at : LineAt). at.number) ats
+pub takes-lines : (header : Header) (old new : PieceRows) (bytes : List ℕ) (ats lines : List LineAt) (first : ℕ) → first ≡ length old.numbers.items + 1 → lines_fault header first (map (line_of bytes) ats) ≡ None → AddsPiece old.pieces (named_arcs header.format first (map (line_of bytes) ats)) new.pieces → new.numbers.items ≡ old.numbers.items ++ map (λ (at : LineAt). at.number) lines → lines ≡ ats
     → TakesLines header old new (map (line_of bytes) ats)
-takes-lines header old new bytes ats first is fine arcs numbers = record {
+takes-lines header old new bytes ats lines first is fine arcs numbers same = record {
   faultless = subst (λ k. lines_fault header k (map (line_of bytes) ats) ≡ None) is fine;
   arcs = subst (λ k. AddsPiece old.pieces (named_arcs header.format k (map (line_of bytes) ats)) new.pieces) is arcs;
-  numbers = numbers ∙ ap (λ l. old.numbers.items ++ l) (sym (numbers-of bytes ats));
+  numbers = numbers ∙ ap (λ l. old.numbers.items ++ map (λ (at : LineAt). at.number) l) same ∙ ap (λ l. old.numbers.items ++ l) (sym (numbers-of bytes ats));
 }
 
 pub fewer-lines : (bytes : List ℕ) (ats : List LineAt) (known n most : ℕ) → known < n → most ≡ n - known → length ats < most → length (map (line_of bytes) ats) + (known + 1) < n + 1

@@ -1,5 +1,5 @@
 -- Lines that were taken together, side by side in one list of bytes.
-use Rattle.std.specs.Prelude.{◌≡◌, ◌≢◌, ◌≤◌, ◌<◌, ◌+◌, ℕ, true, false, ⊤, Option, None, Result, Ok, Err, List, [], length, ◌++◌, map, slice_range, IfSome}
+use Rattle.std.specs.Prelude.{◌≡◌, ◌≢◌, ◌≤◌, ◌+◌, ℕ, true, false, ⊤, Option, None, Result, Ok, Err, List, [], length, ◌++◌, map, slice_range, IfSome}
 use Rattle.pg_text.specs.Coming.{Told}
 use Rattle.pg_metis.specs.declared.faults.GraphFault.{GraphFault}
 use Rattle.pg_metis.specs.declared.faults.GraphFault.TheVariants.{Refused}

@@ -5,7 +5,7 @@ use Rattle.pg_metis.specs.Fault.{body_fault, lines_fault}
 use Rattle.pg_metis.specs.Headers.{header_in}
 use Rattle.pg_metis.specs.Ahead.{content_ahead}
 use Rattle.pg_metis.specs.Batches.{Begins, lines_in}
-use Rattle.pg_metis.proofs.BatchLemmas.{body-bad, fewer-lines, stop-failed, stop-refused}
+use Rattle.pg_metis.proofs.BatchLemmas.{body-bad, fewer-lines, stop-refused}
 use Rattle.pg_metis.proofs.RefusalLemmas.{refused-passed}
 use Rattle.pg_metis.proofs.ToldLemmas.{if_some-weaker}
 use Rattle.pg_metis.proofs.batches.read_batch.Goals as goal

@@ -1,4 +1,4 @@
-use Rattle.std.proofs.Common.{◌≡◌, ◌≤◌, ◌-◌, length, All, []}
+use Rattle.std.proofs.Common.{◌≡◌, ◌≤◌, ◌-◌, length, All}
 use Rattle.pg_text.specs.Coming.{Told}
 use Rattle.pg_metis.specs.Ahead.{content_ahead, Passes}
 use Rattle.pg_metis.specs.Batches.{IsWithin, lines_in}

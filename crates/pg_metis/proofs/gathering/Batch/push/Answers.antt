@@ -1,4 +1,4 @@
-use Rattle.std.proofs.Common.{◌≡◌, ◌∙◌, sym, ap, refl, length}
+use Rattle.std.proofs.Common.{◌≡◌, ◌∙◌, ap, refl, length}
 use Rattle.pg_metis.proofs.GatherLemmas.{lines-pushed}
 use Rattle.pg_metis.proofs.gathering.Batch.push.Goals as goal
 
