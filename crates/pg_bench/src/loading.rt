@@ -5,6 +5,7 @@ use pg_outside::{FileInputs, Inputs};
 use std::io;
 use std::io::ErrorKind;
 use std::num::NonZeroU32;
+use std::thread::Threads;
 use std::time::{Duration, Instant};
 
 /// A graph, and how long it took to be read.
@@ -17,19 +18,29 @@ pub struct Loaded {
 }
 
 /// The graph of the file of this name, read by at most so many threads, with the time that reading took.
-pub fn load_timed(rt: &HostRuntime, threads: NonZeroU32, file: &str) -> io::Result<Loaded> {
+pub fn load_timed<W: Threads + Sync>(
+    token: &W,
+    rt: &HostRuntime,
+    threads: NonZeroU32,
+    file: &str,
+) -> io::Result<Loaded> {
     let start = Instant::now(rt)?;
-    let graph = load(rt, threads, file)?;
+    let graph = load(token, rt, threads, file)?;
     let reading = start.elapsed(rt)?;
     Ok(Loaded { graph, reading })
 }
 
 /// The graph of the file of this name, read by at most so many threads. `NotFound`: the file can't be opened. `InvalidData`: it is no graph file.
 /// `Other`: a read failed. `OutOfMemory`: an allocation was refused.
-pub fn load(rt: &HostRuntime, threads: NonZeroU32, file: &str) -> io::Result<EdgeList> {
+pub fn load<W: Threads + Sync>(
+    token: &W,
+    rt: &HostRuntime,
+    threads: NonZeroU32,
+    file: &str,
+) -> io::Result<EdgeList> {
     let mut inputs = FileInputs::new(rt);
     inputs.begin(file).map_err(|_| ErrorKind::NotFound)?;
-    match read_graph_on_threads(rt, rt.alloc(), threads.get(), &mut inputs) {
+    match read_graph_on_threads(token, rt.alloc(), threads.get(), &mut inputs) {
         Ok(graph) => Ok(graph),
         Err(GraphFault::Refused { .. }) => Err(ErrorKind::InvalidData.into()),
         Err(GraphFault::Failed) => Err(ErrorKind::Other.into()),

@@ -67,14 +67,14 @@ use traffic::{group_of_rolls, message_count};
 fn main(rt: HostRuntime) -> io::Result<()> {
     let words = words(&rt)?;
     match Job::of_words(&words) {
-        Some(Job::Divide(division)) => measure_division(&rt, division),
+        Some(Job::Divide(division)) => measure_division(&rt, &rt, division),
         Some(Job::Send(traffic)) => measure_traffic(&rt, traffic),
         Some(Job::Synchronize(map)) => {
-            let graph = load(&rt, NonZeroU32::MIN, map.file)?;
+            let graph = load(&rt, &rt, NonZeroU32::MIN, map.file)?;
             measure_map(&rt, &graph, map.ranks)
         }
         Some(Job::Run(job)) => {
-            let loaded = load_timed(&rt, job.crew.threads, job.file)?;
+            let loaded = load_timed(&rt, &rt, job.crew.threads, job.file)?;
             measure_run(&rt, loaded, job.algorithm, job.crew)
         }
         None => Err(io::Error::new(
@@ -94,8 +94,12 @@ fn words(rt: &HostRuntime) -> io::Result<Vec<String>> {
 }
 
 // Reads, divides, and prints what came of it and how long it took.
-fn measure_division(rt: &HostRuntime, job: Division<'_>) -> io::Result<()> {
-    let Loaded { graph, reading } = load_timed(rt, NonZeroU32::MIN, job.file)?;
+fn measure_division<W: Threads + Sync>(
+    token: &W,
+    rt: &HostRuntime,
+    job: Division<'_>,
+) -> io::Result<()> {
+    let Loaded { graph, reading } = load_timed(token, rt, NonZeroU32::MIN, job.file)?;
     match job.layout {
         Layout::Block => {
             let dist = Block::new(graph.n(), job.ranks);

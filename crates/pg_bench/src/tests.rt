@@ -22,9 +22,10 @@ use pg_lane::RingLanes;
 use pg_relax::Relax;
 use pg_run::{Turn, assemble, drive, run};
 use pg_triggers::Pair;
-use std::alloc::Global;
+use std::alloc::{AllocGlobal, Global};
 use std::num::NonZeroU32;
 use std::test::Fail;
+use std::thread::Threads;
 
 type Rolls = Pair<Roll, Roll>;
 
@@ -152,7 +153,7 @@ fn a_colouring_of_a_path_over_two_ranks_has_two_colours(rt: HostRuntime) -> Resu
 }
 
 // The parts of the path 1, 2, 3 beside a vertex of its own, in blocks of two ranks.
-fn path_parts(rt: &HostRuntime) -> Result<Vec<Part>, Fail>
+fn path_parts<W: Threads + Sync + AllocGlobal>(rt: &W) -> Result<Vec<Part>, Fail>
     ensures count { IfOk result (λ parts. length parts.items ≡ 2) }
     ensures order { IfOk result (λ parts. AreInOrder parts.items) }
     ensures edges { IfOk result (λ parts. All (HasEdgesBelow 2) parts.items) }

@@ -1,6 +1,6 @@
 //! Vertices divided by a partition file.
 
-use crate::running::{WEIGHTED, run_over, words_of};
+use crate::running::{FOREST, WEIGHTED, WEIGHTS, run_over, words_of};
 use pg_base::{OpenGate, Status};
 use std::test::Fail;
 

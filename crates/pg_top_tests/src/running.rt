@@ -21,6 +21,12 @@ pub(crate) const WEIGHTED: &str = "4 2 1\n2 5\n1 5 3 2\n2 2\n\n";
 
 pub(crate) const LONG_PATH: &str = "6 5\n2\n1 3\n2 4\n3 5\n4 6\n5\n";
 
+/// The weights 5 and 2 in a row, and a vertex of its own, by `sssp` from 1.
+pub(crate) const WEIGHTS: &str = "0\n5\n7\n-\n";
+
+/// Its forest.
+pub(crate) const FOREST: &str = "1 2 5\n2 3 2\ntotal 7\n";
+
 /// What a run over one file with the name `B` left.
 #[derive(Drop)]
 pub(crate) struct Seen {

@@ -1,6 +1,6 @@
 //! Searches, least weights and components over sources and sinks in memory.
 
-use crate::running::{LONG_PATH, MESH, PATH, WEIGHTED, run, search, words_of};
+use crate::running::{FOREST, LONG_PATH, MESH, PATH, WEIGHTED, WEIGHTS, run, search, words_of};
 use pg_base::Status;
 use std::test::Fail;
 
@@ -67,12 +67,6 @@ fn components_of_no_vertex_print_nothing(rt: HostRuntime) -> Result<(), Fail> {
     assert_eq!(rt; seen.out.text(), b"".as_slice());
     Ok(())
 }
-
-/// The weights 5 and 2 in a row, and a vertex of its own, by `sssp` from 1.
-const WEIGHTS: &str = "0\n5\n7\n-\n";
-
-/// Its forest.
-const FOREST: &str = "1 2 5\n2 3 2\ntotal 7\n";
 
 /// Two edges of weight 1 undercut one of weight 10.
 const DETOUR: &str = "3 3 1\n2 10 3 1\n1 10 3 1\n1 1 2 1\n";
