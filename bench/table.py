@@ -10,7 +10,7 @@ runs counts: the whole run of `pbgl` in seconds and its peak memory in megabytes
 division, and each rank's program) and of running, as `pg_bench` gives them. The scan holds each edge against its mirror as
 `pbgl` does, runs on one thread and writes 64 KiB at once. What writing the same text a line a system call costs is measured
 by itself, since `pbgl` writes so: a ratio is the whole run less that, divided by the scan's. There is no scan for forests and
-colours. With --print nothing is written, and the page goes to standard output.
+colours. All of them ask for pages of 2 MiB, as `bin/pbgl` does (`run.py`). With --print nothing is written, and the page goes to standard output.
 """
 import argparse, datetime, os, subprocess, sys, tempfile
 
